@@ -1,0 +1,12 @@
+//! A statement on one cell, and what it does to the cell's value (docs/statements.md).
+pub mod applying;
+pub mod checked;
+pub mod operation;
+pub mod wording;
+
+pub use applying::Effect;
+pub use checked::Missing;
+pub use checked::Statement;
+pub use operation::Operation;
+pub use wording::MissingDisplay;
+pub use wording::StatementDisplay;
