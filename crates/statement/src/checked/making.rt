@@ -42,6 +42,13 @@ impl Statement {
         }
     }
 
+    /// The statement that reads cell 0.
+    pub fn reading_first() -> Statement
+        ensures { λ r. ⌜ (r .cell ≡ 0) × (r .operation ≡ Operation.Get) ⌝ }
+    {
+        Statement { cell: 0, operation: Operation::Get }
+    }
+
     /// The cell, from 0 to 63.
     pub fn cell(&self) -> u64
         ensures value { λ r. ⌜ r ≡ now (self .entry) .cell ⌝ }
