@@ -4,3 +4,4 @@ pub mod Steps
 pub mod Refused
 pub mod Ran
 pub mod Finishing
+pub mod Updates

@@ -25,6 +25,10 @@ pub record Meaning : Type 0 where
 abbrev pub put : {X : Type 0} → (ℕ → X) → ℕ → X → ℕ → X
 put f k v = λ i. cond (eqb i k) v (f i)
 
+-- The same, which a proof opens only where it says so.
+unfoldable pub upd : {X : Type 0} → (ℕ → X) → ℕ → X → ℕ → X
+upd f k v i = put f k v i
+
 -- p holds of some number below n.
 abbrev pub any-below : ℕ → (ℕ → Bool) → Bool
 any-below zero p = false

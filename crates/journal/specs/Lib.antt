@@ -1,0 +1,4 @@
+pub mod Runs
+pub mod Judging
+pub mod Positions
+pub mod Verdicts
