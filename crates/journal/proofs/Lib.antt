@@ -1,1 +1,3 @@
 pub mod Summaries
+pub mod Fronts
+pub mod Earlier
