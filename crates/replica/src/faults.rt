@@ -1,7 +1,7 @@
 //! Why a replica or a database refuses a call.
 use std::fmt;
 
-/// The refusals of a replica and of a database. A refused call changes nothing.
+/// The refusals of a replica, of a database, and of a bank of them. A refused call changes nothing.
 #[derive(Clone, Copy, PartialEq, Eq, Debug)]
 pub enum Fault {
     /// There is no such cell: cells are 0 to 63.
@@ -18,6 +18,8 @@ pub enum Fault {
     NotQuiet,
     /// The position has no successor that the mark could hold.
     LastPosition,
+    /// A bank of databases has none at this place.
+    NoDatabase,
 }
 
 pub impl fmt::Display for Fault as FaultDisplay {
@@ -30,6 +32,7 @@ pub impl fmt::Display for Fault as FaultDisplay {
             Fault::Busy(cell) => write!(f, "busy at cell {cell}"),
             Fault::NotQuiet => write!(f, "not quiet"),
             Fault::LastPosition => write!(f, "last position"),
+            Fault::NoDatabase => write!(f, "no such database"),
         }
     }
 }

@@ -1,0 +1,9 @@
+pub mod Numbers
+pub mod Servers
+pub mod Refusing
+pub mod Delivering
+pub mod States
+pub mod Acts
+pub mod Steps
+pub mod Histories
+pub mod Law
