@@ -1,7 +1,7 @@
 //! What a message of the log comes to.
 
 /// The judgement of a message, from the log alone.
-#[derive(Clone, Copy, PartialEq, Eq, Debug)]
+#[derive(Clone, Copy, PartialEq, Eq)]
 pub enum Judgement {
     /// An epoch message that carries the epoch in force: the epoch rises by 1.
     Accepted,

@@ -4,7 +4,7 @@ ghost use Rattle.pronto.specs.Numbers.{fault-number, passed-up};
 use replica::Fault;
 
 /// The refusals of one server (docs/refusals.md has their numbers). A refused act changes nothing.
-#[derive(Clone, Copy, PartialEq, Eq, Debug)]
+#[derive(Clone, Copy, PartialEq, Eq)]
 pub enum ServerFault {
     /// The server is stopped.
     Stopped,

@@ -2,11 +2,10 @@
 ghost use mathlib.Core.Path.{_≡_};
 ghost use Rattle.pronto.specs.Numbers.{number-of};
 use crate::faults::ServerFault;
-use crate::faults::ServerFaultDebug;
 use crate::faults::ServerFaultPartialEq;
 
 /// The refusals of an ensemble. A refused act changes nothing.
-#[derive(Clone, Copy, PartialEq, Eq, Debug)]
+#[derive(Clone, Copy, PartialEq, Eq)]
 pub enum Refusal {
     /// There is no such server.
     NoServer,

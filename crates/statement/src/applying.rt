@@ -5,7 +5,7 @@ use crate::checked::Statement;
 use crate::operation::Operation;
 
 /// The value that a statement leaves in its cell, and its answer.
-#[derive(Clone, Copy, PartialEq, Eq, Debug)]
+#[derive(Clone, Copy, PartialEq, Eq)]
 pub struct Effect {
     pub value: u64,
     pub answer: u64,

@@ -5,20 +5,19 @@ ghost use Prim.Native.Nat.{_<_};
 ghost use Rattle.std.specs.declared.option.Option.the-variants.{None};
 ghost use Rattle.statement.specs.Operations.{member-fits};
 use crate::operation::Operation;
-use crate::operation::OperationDebug;
 use crate::operation::OperationPartialEq;
 
 pub mod making;
 
 /// A number that names no cell, or no member.
-#[derive(Clone, Copy, PartialEq, Eq, Debug)]
+#[derive(Clone, Copy, PartialEq, Eq)]
 pub enum Missing {
     Cell(u64),
     Member(u64),
 }
 
 /// An operation on a cell.
-#[derive(Clone, Copy, PartialEq, Eq, Debug)]
+#[derive(Clone, Copy, PartialEq, Eq)]
 pub struct Statement {
     cell: u64,
     operation: Operation,

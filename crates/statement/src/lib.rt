@@ -5,8 +5,13 @@ pub mod operation;
 pub mod wording;
 
 pub use applying::Effect;
+pub use applying::EffectPartialEq;
 pub use checked::Missing;
+pub use checked::MissingPartialEq;
 pub use checked::Statement;
+pub use checked::StatementPartialEq;
 pub use operation::Operation;
+pub use operation::OperationPartialEq;
 pub use wording::MissingDisplay;
 pub use wording::StatementDisplay;
+

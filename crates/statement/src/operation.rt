@@ -1,7 +1,7 @@
 //! What a statement does with its cell.
 
 /// One of the seven operations, with its value or member as a raw number.
-#[derive(Clone, Copy, PartialEq, Eq, Debug)]
+#[derive(Clone, Copy, PartialEq, Eq)]
 pub enum Operation {
     Get,
     Set(u64),
