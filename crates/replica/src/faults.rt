@@ -2,7 +2,7 @@
 use std::fmt;
 
 /// The refusals of a replica, of a database, and of a bank of them. A refused call changes nothing.
-#[derive(Clone, Copy, PartialEq, Eq)]
+#[derive(Clone, Copy, PartialEq, Eq, Debug)]
 pub enum Fault {
     /// There is no such cell: cells are 0 to 63.
     NoCell,

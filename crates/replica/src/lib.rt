@@ -7,7 +7,9 @@ pub mod transacting;
 
 pub use databases::Database;
 pub use faults::Fault;
+pub use faults::FaultDebug;
 pub use faults::FaultDisplay;
+pub use faults::FaultPartialEq;
 pub use replaying::CELLS;
 pub use replaying::SLOTS;
 pub use replaying::replay;

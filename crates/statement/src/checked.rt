@@ -10,7 +10,7 @@ use crate::operation::OperationPartialEq;
 pub mod making;
 
 /// A number that names no cell, or no member.
-#[derive(Clone, Copy, PartialEq, Eq)]
+#[derive(Clone, Copy, PartialEq, Eq, Debug)]
 pub enum Missing {
     Cell(u64),
     Member(u64),

@@ -7,6 +7,7 @@ pub mod wording;
 pub use applying::Effect;
 pub use applying::EffectPartialEq;
 pub use checked::Missing;
+pub use checked::MissingDebug;
 pub use checked::MissingPartialEq;
 pub use checked::Statement;
 pub use checked::StatementPartialEq;
