@@ -65,13 +65,15 @@ pub data Sees (j : Summary) (m : Msg) : Type 0 where
 pub sees : (j : Summary) (m : Msg) → Sees j m
 unfolding judge
 sees j (epoch-change i e) =
-  elim (ℕ-discrete e (j .epoch))
-    [ yes p ↦ is-accepted i (ap (epoch-change i) p) (rw (p, eq-eqb (j .epoch) (j .epoch) refl))
-    | no np ↦ is-stale i e refl (rw (ne-eqb e (j .epoch) np)) ]
+    elim (ℕ-discrete e (j .epoch)) [
+      | yes p ↦ is-accepted i (ap (epoch-change i) p) (rw (p, eq-eqb (j .epoch) (j .epoch) refl))
+      | no np ↦ is-stale i e refl (rw (ne-eqb e (j .epoch) np))
+    ]
 sees j (transaction t) =
-  elim (ℕ-discrete (t .epoch) (j .epoch))
-    [ yes p ↦ go p (j .seen (t .client) (t .job)) refl
-    | no np ↦ is-late t refl np (rw (ne-eqb (t .epoch) (j .epoch) np)) ]
+    elim (ℕ-discrete (t .epoch) (j .epoch)) [
+      | yes p ↦ go p (j .seen (t .client) (t .job)) refl
+      | no np ↦ is-late t refl np (rw (ne-eqb (t .epoch) (j .epoch) np))
+    ]
   where
     go : t .epoch ≡ j .epoch → (o : Option ℕ) → j .seen (t .client) (t .job) ≡ o → Sees j (transaction t)
     go p None e = is-committed t refl p (rw (p, eq-eqb (j .epoch) (j .epoch) refl, e))
@@ -80,12 +82,13 @@ sees j (transaction t) =
 -- the epoch never falls, and what it comes to after a message
 pub next-epoch : (j : Summary) (m : Msg) → j .epoch ≤ next j m .epoch
 next-epoch j m =
-  elim (sees j m)
-    [ is-accepted i e g ↦ rw g (omega arith)
-    | is-stale i e f g ↦ rw g (omega arith)
-    | is-committed t e f g ↦ rw (g, e) (omega arith)
-    | is-late t e f g ↦ rw g (omega arith)
-    | is-again t p e f g ↦ rw g (omega arith) ]
+    elim (sees j m) [
+      | is-accepted i e g ↦ rw g (omega arith)
+      | is-stale i e f g ↦ rw g (omega arith)
+      | is-committed t e f g ↦ rw (g, e) (omega arith)
+      | is-late t e f g ↦ rw g (omega arith)
+      | is-again t p e f g ↦ rw g (omega arith)
+    ]
 
 pub from-epoch : (j : Summary) (l : List Msg) → j .epoch ≤ from j l .epoch
 from-epoch j [] = omega arith
@@ -94,8 +97,8 @@ from-epoch j (m ∷ l) = let a = next-epoch j m in let b = from-epoch (next j m)
 pub at-epoch : (l : List Msg) (k k′ : ℕ) → k ≤ k′ → at l k .epoch ≤ at l k′ .epoch
 unfolding at
 at-epoch l k k′ h =
-  let e : from start (take k′ l) ≡ from (from start (take k (take k′ l))) (drop k (take k′ l)) =
+    let e : from start (take k′ l) ≡ from (from start (take k (take k′ l))) (drop k (take k′ l)) =
     ap (from start) (sym (take-append-drop k (take k′ l))) ∙ from-append start (take k (take k′ l)) (drop k (take k′ l)) in
-  let b = from-epoch (from start (take k (take k′ l))) (drop k (take k′ l)) in
-  let c : from start (take k (take k′ l)) ≡ from start (take k l) = ap (from start) (take-take k k′ l h) in
-  rw e (rw (← c) b)
+    let b = from-epoch (from start (take k (take k′ l))) (drop k (take k′ l)) in
+    let c : from start (take k (take k′ l)) ≡ from start (take k l) = ap (from start) (take-take k k′ l h) in
+    rw e (rw (← c) b)

@@ -47,11 +47,13 @@ module _ (j : Summary) where
   module _ (c k : ℕ) where
     two-places : (a b : ℕ) (x : Option ℕ) → (a ≡ c → b ≡ k → ⊥) → upd (j .seen) a (upd (j .seen a) b x) c k ≡ j .seen c k
     two-places a b x n =
-      elim (ℕ-discrete c a)
-        [ yes e ↦ elim (ℕ-discrete k b)
-            [ yes f ↦ absurd (n (sym e) (sym f))
-            | no m ↦ ap (λ z. upd (j .seen) a (upd (j .seen a) b x) z k) e ∙ ap (λ (f : ℕ → Option ℕ). f k) (upd-same (j .seen) a (upd (j .seen a) b x)) ∙ upd-other (j .seen a) b x k m ∙ ap (λ z. j .seen z k) (sym e) ]
-        | no m ↦ ap (λ (f : ℕ → Option ℕ). f k) (upd-other (j .seen) a (upd (j .seen a) b x) c m) ]
+        elim (ℕ-discrete c a) [
+          | yes e ↦ elim (ℕ-discrete k b) [
+            | yes f ↦ absurd (n (sym e) (sym f))
+            | no m ↦ ap (λ z. upd (j .seen) a (upd (j .seen a) b x) z k) e ∙ ap (λ (f : ℕ → Option ℕ). f k) (upd-same (j .seen) a (upd (j .seen a) b x)) ∙ upd-other (j .seen a) b x k m ∙ ap (λ z. j .seen z k) (sym e)
+          ]
+          | no m ↦ ap (λ (f : ℕ → Option ℕ). f k) (upd-other (j .seen) a (upd (j .seen a) b x) c m)
+        ]
 
     transaction-same : (t : Tx) (b : Bool) (o : Option ℕ) → (t .client ≡ c → t .job ≡ k → ⊥) → after-judged (cond b (unless-seen o) late) (transaction t) j .seen c k ≡ j .seen c k
     transaction-same t true None n = two-places (t .client) (t .job) (Some (j .count)) n
@@ -69,8 +71,8 @@ module _ (j : Summary) where
 
   pub transaction-first : (t : Tx) → t .epoch ≡ j .epoch → j .seen (t .client) (t .job) ≡ None → next j (transaction t) .seen (t .client) (t .job) ≡ Some (j .count)
   transaction-first t e s =
-    ap (λ s. s .seen (t .client) (t .job)) (transaction-moves t true None (eq-eqb (t .epoch) (j .epoch) e) s)
-    ∙ ap (λ (f : ℕ → Option ℕ). f (t .job)) (upd-same (j .seen) (t .client) (upd (j .seen (t .client)) (t .job) (Some (j .count)))) ∙ upd-same (j .seen (t .client)) (t .job) (Some (j .count))
+      ap (λ s. s .seen (t .client) (t .job)) (transaction-moves t true None (eq-eqb (t .epoch) (j .epoch) e) s)
+      ∙ ap (λ (f : ℕ → Option ℕ). f (t .job)) (upd-same (j .seen) (t .client) (upd (j .seen (t .client)) (t .job) (Some (j .count)))) ∙ upd-same (j .seen (t .client)) (t .job) (Some (j .count))
 
 counts : (x : Judged) (m : Msg) (j : Summary) → after-judged x m j .count ≡ j .count + 1
 counts accepted m j = refl

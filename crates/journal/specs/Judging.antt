@@ -45,11 +45,12 @@ passed j = record { count = j .count + 1; epoch = j .epoch; seen = j .seen; cell
 abbrev pub after-judged : Judged → Msg → Summary → Summary
 after-judged accepted m j = record { count = j .count + 1; epoch = j .epoch + 1; seen = j .seen; cells = j .cells }
 after-judged committed (transaction t) j =
-  record {
-    count = j .count + 1;
-    epoch = j .epoch;
-    seen = upd (j .seen) (t .client) (upd (j .seen (t .client)) (t .job) (Some (j .count)));
-    cells = all-stepped (j .cells) (t .stmts) }
+    record {
+      count = j .count + 1;
+      epoch = j .epoch;
+      seen = upd (j .seen) (t .client) (upd (j .seen (t .client)) (t .job) (Some (j .count)));
+      cells = all-stepped (j .cells) (t .stmts);
+    }
 after-judged committed (epoch-change i e) j = passed j
 after-judged stale m j = passed j
 after-judged late m j = passed j

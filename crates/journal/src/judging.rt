@@ -39,7 +39,10 @@ impl Standing {
                 if change.epoch != self.epoch {
                     return self;
                 }
-                Standing { epoch: self.epoch + 1, earlier: self.earlier }
+                Standing {
+                    epoch: self.epoch + 1,
+                    earlier: self.earlier,
+                }
             }
             Message::Transaction(t) => {
                 if t.epoch != self.epoch {
@@ -53,7 +56,10 @@ impl Standing {
                 }
                 match self.earlier {
                     Some(_) => self,
-                    None => Standing { epoch: self.epoch, earlier: Some(position) },
+                    None => Standing {
+                        epoch: self.epoch,
+                        earlier: Some(position),
+                    },
                 }
             }
         }
@@ -65,7 +71,10 @@ fn before<B: Broadcast>(broadcast: &B, position: u64, client: u8, job: u32) -> S
     requires { ⌜ position ≤ length (B·Broadcast .log (now broadcast)) ⌝ }
     ensures { λ r. ⌜ Knows r (at (B·Broadcast .log (now (broadcast .entry))) position) client job ⌝ }
 {
-    let mut so_far = Standing { epoch: 1, earlier: None };
+    let mut so_far = Standing {
+        epoch: 1,
+        earlier: None,
+    };
     for q in 0..position {
         let Ok(message) = broadcast.message_at(q) else {
             return so_far;

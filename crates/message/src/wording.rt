@@ -2,8 +2,8 @@
 use crate::messages::Message;
 use crate::messages::Transaction;
 use crate::notes::Notes;
-use std::fmt;
 use statement::StatementDisplay;
+use std::fmt;
 
 /// Each statement with its result after a space, as ` add 5 3 = 3; get 5 = 3;`.
 pub impl fmt::Display for Notes as NotesDisplay {
@@ -25,8 +25,17 @@ pub impl fmt::Display for Message as MessageDisplay {
                 write!(f, "server {sender}, epoch {epoch}: next epoch")
             }
             Message::Transaction(transaction) => {
-                let Transaction { sender, epoch, client, job, notes } = transaction;
-                write!(f, "server {sender}, epoch {epoch}: client {client}, job {job}:{notes}")
+                let Transaction {
+                    sender,
+                    epoch,
+                    client,
+                    job,
+                    notes,
+                } = transaction;
+                write!(
+                    f,
+                    "server {sender}, epoch {epoch}: client {client}, job {job}:{notes}"
+                )
             }
         }
     }

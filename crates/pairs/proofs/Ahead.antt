@@ -42,16 +42,19 @@ pos (suc k) h = omega arith
 
 module _ {X : Type 0} (x y : X) (f : ℕ → X) (i : ℕ) where
   pub put-first : i ≡ 0 → ahead y f ≡ upd (ahead x f) i y
-  put-first e = fun-ext (λ j. elim (ℕ-discrete j i)
-    [ yes h ↦ at-first y f j (h ∙ e) ∙ sym (upd-at y (ahead x f) i y j h)
-    | no n ↦ at-rest y f j (λ z. n (z ∙ sym e)) ∙ sym (upd-off y (ahead x f) i y j n ∙ at-rest x f j (λ z. n (z ∙ sym e))) ])
+  put-first e = fun-ext (λ j. elim (ℕ-discrete j i) [
+    | yes h ↦ at-first y f j (h ∙ e) ∙ sym (upd-at y (ahead x f) i y j h)
+    | no n ↦ at-rest y f j (λ z. n (z ∙ sym e)) ∙ sym (upd-off y (ahead x f) i y j n ∙ at-rest x f j (λ z. n (z ∙ sym e)))
+  ])
 
   pub put-rest : i ≢ 0 → ahead x (upd f (i - 1) y) ≡ upd (ahead x f) i y
-  put-rest m = fun-ext (λ j. elim (ℕ-discrete j i)
-    [ yes h ↦ at-rest x (upd f (i - 1) y) j (λ z. m (sym h ∙ z)) ∙ upd-at y f (i - 1) y (j - 1) (ap (λ k. k - 1) h) ∙ sym (upd-at y (ahead x f) i y j h)
-    | no n ↦ elim (ℕ-discrete j 0)
-        [ yes z ↦ at-first x (upd f (i - 1) y) j z ∙ sym (upd-off y (ahead x f) i y j n ∙ at-first x f j z)
-        | no p ↦ at-rest x (upd f (i - 1) y) j p ∙ upd-off y f (i - 1) y (j - 1) (λ q. n (omega (arith, q, pos j p, pos i m))) ∙ sym (upd-off y (ahead x f) i y j n ∙ at-rest x f j p) ] ])
+  put-rest m = fun-ext (λ j. elim (ℕ-discrete j i) [
+    | yes h ↦ at-rest x (upd f (i - 1) y) j (λ z. m (sym h ∙ z)) ∙ upd-at y f (i - 1) y (j - 1) (ap (λ k. k - 1) h) ∙ sym (upd-at y (ahead x f) i y j h)
+    | no n ↦ elim (ℕ-discrete j 0) [
+      | yes z ↦ at-first x (upd f (i - 1) y) j z ∙ sym (upd-off y (ahead x f) i y j n ∙ at-first x f j z)
+      | no p ↦ at-rest x (upd f (i - 1) y) j p ∙ upd-off y f (i - 1) y (j - 1) (λ q. n (omega (arith, q, pos j p, pos i m))) ∙ sym (upd-off y (ahead x f) i y j n ∙ at-rest x f j p)
+    ]
+  ])
 
 module _ {T : Type 0} (i : ℕ) (x : Meaning) (f : ℕ → Meaning) where
   pub told-first : (r : Result T Fault) (y : Meaning) (a b : Option Fault) (P Q : T → Type 0) (c d : Meaning) → i ≡ 0 → a ≡ b → ((v : T) → P v → Q v) → c ≡ d → Told r a P x y c → ToldAt r b Q i (ahead x f) (ahead y f) d
@@ -85,11 +88,12 @@ upd-none i = fun-ext (λ j. by (eqb j i)) where
 -- the first database and those before place n - 1 of the others
 pub all-cleared : (x y : Meaning) (f g : ℕ → Meaning) (n : ℕ) → 0 < n → y ≡ cleared → g ≡ cleared-below (n - 1) f → ahead y g ≡ cleared-below n (ahead x f)
 all-cleared x y f g n some e h = fun-ext (λ j.
-    elim (ℕ-discrete j 0)
-      [ yes z ↦ at-first y g j z ∙ e ∙ sym (cond-true (ltb j n) cleared (ahead x f j) (lt-ltb j n (omega (arith, z))))
+    elim (ℕ-discrete j 0) [
+      | yes z ↦ at-first y g j z ∙ e ∙ sym (cond-true (ltb j n) cleared (ahead x f j) (lt-ltb j n (omega (arith, z))))
       | no m ↦ at-rest y g j m ∙ ap (λ (k : ℕ → Meaning). k (j - 1)) h
           ∙ ap (λ b. cond b cleared (f (j - 1))) (earlier j n (pos j m) some)
-          ∙ ap (cond (ltb j n) cleared) (sym (at-rest x f j m)) ])
+          ∙ ap (cond (ltb j n) cleared) (sym (at-rest x f j m))
+    ])
   where
     earlier : (j n : ℕ) → 0 < j → 0 < n → ltb (j - 1) (n - 1) ≡ ltb j n
     earlier zero n p q = absurd (omega arith)

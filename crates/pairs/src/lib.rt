@@ -42,7 +42,12 @@ pub impl ReplicaBank for Nothing as NothingReplicas {
         0
     }
 
-    fn intake(&mut self, _place: u64, _statements: &[Statement], _position: u64) -> Result<(), Fault> {
+    fn intake(
+        &mut self,
+        _place: u64,
+        _statements: &[Statement],
+        _position: u64,
+    ) -> Result<(), Fault> {
         Err(Fault::NoDatabase)
     }
 }
@@ -87,11 +92,19 @@ pub impl<D: Replica, K: ReplicaBank> ReplicaBank for Pair<D, K> as PairReplicas 
     }
 
     fn cell(&self, place: u64, cell: u64) -> Result<u64, Fault> {
-        if place == 0 { self.first.cell(cell) } else { self.rest.cell(place - 1, cell) }
+        if place == 0 {
+            self.first.cell(cell)
+        } else {
+            self.rest.cell(place - 1, cell)
+        }
     }
 
     fn mark(&self, place: u64) -> u64 {
-        if place == 0 { self.first.mark() } else { self.rest.mark(place - 1) }
+        if place == 0 {
+            self.first.mark()
+        } else {
+            self.rest.mark(place - 1)
+        }
     }
 
     fn intake(&mut self, place: u64, statements: &[Statement], position: u64) -> Result<(), Fault> {
@@ -107,22 +120,42 @@ pub impl<D: Database, K: DatabaseBank> DatabaseBank for Pair<D, K> as PairDataba
     ghost units = { ahead (D·Database .unit) (K·DatabaseBank .units) };
 
     fn open(&mut self, place: u64, slot: usize) -> Result<(), Fault> {
-        if place == 0 { self.first.open(slot) } else { self.rest.open(place - 1, slot) }
+        if place == 0 {
+            self.first.open(slot)
+        } else {
+            self.rest.open(place - 1, slot)
+        }
     }
 
     fn run(&mut self, place: u64, slot: usize, statement: &Statement) -> Result<u64, Fault> {
-        if place == 0 { self.first.run(slot, statement) } else { self.rest.run(place - 1, slot, statement) }
+        if place == 0 {
+            self.first.run(slot, statement)
+        } else {
+            self.rest.run(place - 1, slot, statement)
+        }
     }
 
     fn seal(&mut self, place: u64, slot: usize, position: u64) -> Result<(), Fault> {
-        if place == 0 { self.first.seal(slot, position) } else { self.rest.seal(place - 1, slot, position) }
+        if place == 0 {
+            self.first.seal(slot, position)
+        } else {
+            self.rest.seal(place - 1, slot, position)
+        }
     }
 
     fn undo(&mut self, place: u64, slot: usize) -> Result<(), Fault> {
-        if place == 0 { self.first.undo(slot) } else { self.rest.undo(place - 1, slot) }
+        if place == 0 {
+            self.first.undo(slot)
+        } else {
+            self.rest.undo(place - 1, slot)
+        }
     }
 
     fn lose(&mut self, place: u64) {
-        if place == 0 { self.first.lose() } else { self.rest.lose(place - 1) }
+        if place == 0 {
+            self.first.lose()
+        } else {
+            self.rest.lose(place - 1)
+        }
     }
 }

@@ -37,7 +37,7 @@ pub record Begin (c k : ℕ) (s : State) (i : ℕ) (r : Result (Unit {0}) Refusa
 -- run: of the operation on the cell of these numbers.
 abbrev pub Run : ℕ → ℕ → ℕ → Operation → State → ℕ → Result ℕ Refusal → State → Type 0
 Run c k cell o s i r s′ =
-  At (λ v. run-why (s .units i) v c k cell o) (λ v x. x ≡ run-result v c k cell o) (λ v. run-after (s .units i) v c k cell o) s i r s′
+    At (λ v. run-why (s .units i) v c k cell o) (λ v x. x ≡ run-result v c k cell o) (λ v. run-after (s .units i) v c k cell o) s i r s′
 
 abbrev pub Abort : ℕ → ℕ → State → ℕ → Result (Unit {0}) Refusal → State → Type 0
 Abort c k s i r s′ = At (λ v. abort-why v c k) Nothing-told (λ v. abort-after v c k) s i r s′
@@ -73,7 +73,7 @@ commit-message i v c k = if-found (find v c k) (epoch-change 0 0) (λ p w. messa
 
 abbrev pub Commit : ℕ → ℕ → State → ℕ → Result (Unit {0}) Refusal → State → Type 0
 Commit c k s i r s′ =
-  Sends s (commit-message i (s .servers i) c k) (upd (s .servers) i (commit-after (s .servers i) c k)) (unless-full s i (why-at s i (λ v. first (open-table v c k)))) r s′
+    Sends s (commit-message i (s .servers i) c k) (upd (s .servers) i (commit-after (s .servers i) c k)) (unless-full s i (why-at s i (λ v. first (open-table v c k)))) r s′
 
 -- order: some waiting message moves to the end of the log.
 abbrev pub Order : State → Result ℕ Refusal → State → Type 0

@@ -22,7 +22,7 @@ use Rattle.pronto.specs.declared.faults.ServerFault.the-variants as fault
 -- has its client and job.
 abbrev pub own-at : (ℕ → Option Work) → ℕ → ℕ → ℕ → ℕ → ℕ → ℕ → Option ℕ
 own-at rows epoch i sender e c k =
-  cond (eqb sender i) (cond (eqb e epoch) (if-found (seek rows c k 8) None (λ p w. cond (w .committing) (Some p) None)) None) None
+    cond (eqb sender i) (cond (eqb e epoch) (if-found (seek rows c k 8) None (λ p w. cond (w .committing) (Some p) None)) None) None
 
 abbrev pub own-slot : ℕ → Site → Tx → Option ℕ
 own-slot i v t = own-at (v .rows) (v .epoch) i (t .sender) (t .epoch) (t .client) (t .job)

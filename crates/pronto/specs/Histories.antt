@@ -108,7 +108,7 @@ results-told = map (λ x. x .1)
 -- sends the epoch.
 abbrev pub commit-of : ℕ → ℕ → ℕ → History → Tx
 commit-of i c k h =
-  record { sender = i; epoch = standing i h .epoch; client = c; job = k; stmts = statements-told (told i c k h); results = results-told (told i c k h) }
+    record { sender = i; epoch = standing i h .epoch; client = c; job = k; stmts = statements-told (told i c k h); results = results-told (told i c k h) }
 
 abbrev pub if-done : Answer → Msg → List Msg
 if-done answer.Done m = m ∷ []

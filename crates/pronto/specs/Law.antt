@@ -43,15 +43,15 @@ pub record Lawful (h : History) (s : State) : Type 0 where
   pub cells : (i c : ℕ) → s .servers i .db .cells c ≡ single-run (s .log) (max (standing i h .mark) (standing i h .delivered)) c
   -- the results that a client was told in a transaction whose message the log judges committed are those that the single run gives there
   pub confirmed : (earlier later : History) (t : TransactionId) (p : ℕ) → Has h earlier (act.Commit t) answer.Done later →
-    Stands (s .log) p (transaction (commit-of (t .server) (t .client) (t .job) earlier)) committed →
-    results-told (told (t .server) (t .client) (t .job) earlier) ≡ answers (statements-told (told (t .server) (t .client) (t .job) earlier)) (single-run (s .log) p)
+      Stands (s .log) p (transaction (commit-of (t .server) (t .client) (t .job) earlier)) committed →
+      results-told (told (t .server) (t .client) (t .job) earlier) ≡ answers (statements-told (told (t .server) (t .client) (t .job) earlier)) (single-run (s .log) p)
   -- ordered and waiting messages are those that were sent: none is lost, made up or altered
   pub messages : Perm (s .log ++ s .waiting) (all-sent h)
   -- obeyed commits + obeyed suspicions = messages sent = ordered + waiting
   pub counted : (how-many is-commit h + how-many is-suspect h ≡ s .sent) × (s .sent ≡ length (s .log) + length (s .waiting))
   -- a deliver answered how the log judges the message at the position that it told
   pub judgements : (earlier later : History) (i p : ℕ) (j : Judgement) → Has h earlier (act.Deliver i) (answer.Delivered p j) later →
-    (m : Msg) × Stands (s .log) p m (judged-of j)
+      (m : Msg) × Stands (s .log) p m (judged-of j)
   -- epoch, delivered count and mark of every server are those that the answers told
   pub standings : (i : ℕ) → standing-of (s .servers i) ≡ standing i h
   -- a server's epoch is the one in force after what it delivered
@@ -71,8 +71,8 @@ pub record Lawful-on (h h′ : History) (s s′ : State) : Type 0 where
 -- new, and of any two moments of any list of acts.
 abbrev pub Law : Type 0
 Law =
-  (capacity n databases : ℕ) (units : ℕ → ℕ → ℕ) (spare : ℕ → Meaning) → n ≤ databases → capacity ≤ 4096 →
-  (h h′ : History) (s s′ : State) → Leads-to (new-state capacity n databases units spare) h s → Leads-to s h′ s′ → Lawful-on h h′ s s′
+    (capacity n databases : ℕ) (units : ℕ → ℕ → ℕ) (spare : ℕ → Meaning) → n ≤ databases → capacity ≤ 4096 →
+    (h h′ : History) (s s′ : State) → Leads-to (new-state capacity n databases units spare) h s → Leads-to s h′ s′ → Lawful-on h h′ s s′
 
 -- Where a lawful log's transaction message comes from: an obeyed commit, and what its client was told.
 pub record Origin (h : History) (t : Tx) : Type 0 where
@@ -88,5 +88,5 @@ pub record Origin (h : History) (t : Tx) : Type 0 where
 -- So for each committed message there is the commit that sent it, and its client was told what the single run answers there.
 abbrev pub Told-so : Type 0
 Told-so =
-  (h : History) (s : State) → Lawful h s → (p : ℕ) (t : Tx) → Stands (s .log) p (transaction t) committed →
+    (h : History) (s : State) → Lawful h s → (p : ℕ) (t : Tx) → Stands (s .log) p (transaction t) committed →
     ∥ ((o : Origin h t) × (let x = told (t .sender) (t .client) (t .job) (o .earlier) in results-told x ≡ answers (statements-told x) (single-run (s .log) p))) ∥₁

@@ -68,13 +68,13 @@ is-free v p = not (isSome (v .rows p))
 -- begin, at server i of n
 abbrev pub begin-table : ℕ → ℕ → Site → ℕ → ℕ → List (Bool × ServerFault)
 begin-table n i v c k =
-  (not (v .running), fault.Stopped)
-  ∷ (ltb 15 c, fault.NoClient)
-  ∷ (not (eqb i (primary n (v .epoch))), fault.NotPrimary)
-  ∷ (isSome (v .bar), fault.Barred)
-  ∷ (isSome (find v c k), fault.AlreadyOpen)
-  ∷ (not (any-below 8 (is-free v)), fault.Crowded)
-  ∷ []
+    (not (v .running), fault.Stopped)
+    ∷ (ltb 15 c, fault.NoClient)
+    ∷ (not (eqb i (primary n (v .epoch))), fault.NotPrimary)
+    ∷ (isSome (v .bar), fault.Barred)
+    ∷ (isSome (find v c k), fault.AlreadyOpen)
+    ∷ (not (any-below 8 (is-free v)), fault.Crowded)
+    ∷ []
 
 -- The refusal of a begin that takes slot p, at the server of this place in a bank of so many databases.
 unfoldable pub begin-why : ℕ → ℕ → ℕ → ℕ → Site → ℕ → ℕ → ℕ → Option ServerFault
@@ -83,13 +83,13 @@ begin-why databases place n i v c k p = and-then (first (begin-table n i v c k))
 -- run
 abbrev pub run-table : Site → ℕ → ℕ → ℕ → Operation → List (Bool × ServerFault)
 run-table v c k cell o =
-  (not (v .running), fault.Stopped)
-  ∷ (ltb 15 c, fault.NoClient)
-  ∷ (isSome (missing cell o), fault.NoCell)
-  ∷ (not (isSome (find v c k)), fault.NoTransaction)
-  ∷ (is-committing (find v c k), fault.Committing)
-  ∷ (if-found (find v c k) false (λ p w. leb 6 (length (w .stmts))), fault.Long)
-  ∷ []
+    (not (v .running), fault.Stopped)
+    ∷ (ltb 15 c, fault.NoClient)
+    ∷ (isSome (missing cell o), fault.NoCell)
+    ∷ (not (isSome (find v c k)), fault.NoTransaction)
+    ∷ (is-committing (find v c k), fault.Committing)
+    ∷ (if-found (find v c k) false (λ p w. leb 6 (length (w .stmts))), fault.Long)
+    ∷ []
 
 abbrev pub if-statement : {X : Type 0} → Option Statement → X → (Statement → X) → X
 if-statement None x f = x
@@ -97,7 +97,7 @@ if-statement (Some st) x f = f st
 
 unfoldable pub run-why : (ℕ → ℕ) → Site → ℕ → ℕ → ℕ → Operation → Option ServerFault
 run-why unit v c k cell o =
-  and-then (first (run-table v c k cell o)) (if-statement (checked cell o) None (λ st. if-found (find v c k) None (λ p w. up (run-refusal unit (v .db) p st))))
+    and-then (first (run-table v c k cell o)) (if-statement (checked cell o) None (λ st. if-found (find v c k) None (λ p w. up (run-refusal unit (v .db) p st))))
 
 unfoldable pub run-result : Site → ℕ → ℕ → ℕ → Operation → ℕ
 run-result v c k cell o = if-statement (checked cell o) 0 (λ st. if-found (find v c k) 0 (λ p w. run-answer (v .db) p st))
@@ -108,11 +108,11 @@ run-after unit v c k cell o = if-statement (checked cell o) v (λ st. if-found (
 -- commit and abort
 abbrev pub open-table : Site → ℕ → ℕ → List (Bool × ServerFault)
 open-table v c k =
-  (not (v .running), fault.Stopped)
-  ∷ (ltb 15 c, fault.NoClient)
-  ∷ (not (isSome (find v c k)), fault.NoTransaction)
-  ∷ (is-committing (find v c k), fault.Committing)
-  ∷ []
+    (not (v .running), fault.Stopped)
+    ∷ (ltb 15 c, fault.NoClient)
+    ∷ (not (isSome (find v c k)), fault.NoTransaction)
+    ∷ (is-committing (find v c k), fault.Committing)
+    ∷ []
 
 unfoldable pub commit-after : Site → ℕ → ℕ → Site
 commit-after v c k = if-found (find v c k) v (λ p w. sent-off v p w)

@@ -32,7 +32,7 @@ pub record State : Type 0 where
 -- A new ensemble.
 abbrev pub new-state : ℕ → ℕ → ℕ → (ℕ → ℕ → ℕ) → (ℕ → Meaning) → State
 new-state capacity count databases units spare =
-  record { log = []; waiting = []; capacity = capacity; count = count; databases = databases; units = units; sent = 0; servers = λ i. new-site; spare = spare }
+    record { log = []; waiting = []; capacity = capacity; count = count; databases = databases; units = units; sent = 0; servers = λ i. new-site; spare = spare }
 
 -- There is no server of this number.
 abbrev pub no-server : State → ℕ → Bool
@@ -44,7 +44,7 @@ is-full s = leb (s .capacity) (length (s .log) + length (s .waiting))
 
 abbrev pub with-servers : State → (ℕ → Site) → State
 with-servers s servers =
-  record { log = s .log; waiting = s .waiting; capacity = s .capacity; count = s .count; databases = s .databases; units = s .units; sent = s .sent; servers = servers; spare = s .spare }
+    record { log = s .log; waiting = s .waiting; capacity = s .capacity; count = s .count; databases = s .databases; units = s .units; sent = s .sent; servers = servers; spare = s .spare }
 
 -- Server i is now w, and nothing else has changed.
 abbrev pub change : State → ℕ → Site → State
@@ -52,7 +52,7 @@ change s i w = with-servers s (upd (s .servers) i w)
 
 abbrev pub with-messages : State → List Msg → List Msg → ℕ → State
 with-messages s log waiting sent =
-  record { log = log; waiting = waiting; capacity = s .capacity; count = s .count; databases = s .databases; units = s .units; sent = sent; servers = s .servers; spare = s .spare }
+    record { log = log; waiting = waiting; capacity = s .capacity; count = s .count; databases = s .databases; units = s .units; sent = sent; servers = s .servers; spare = s .spare }
 
 -- An act is refused exactly where there is a refusal, and then nothing has changed; otherwise its answer is right, and `done` is what it leaves.
 abbrev pub Did : {S T E : Type 0} → Result T E → Option E → (T → Type 0) → S → S → S → Type 0

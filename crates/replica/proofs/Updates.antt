@@ -25,16 +25,18 @@ upd-other f i v j ne = put-other f i v j ne
 -- what holds of each value of a function with one value replaced
 pub upd-all : {X : Type 0} (P : ℕ → X → Type 0) (f : ℕ → X) (i : ℕ) (v : X) → P i v → ((j : ℕ) → j ≢ i → P j (f j)) → (j : ℕ) → P j (upd f i v j)
 upd-all P f i v here there j =
-    elim (ℕ-discrete j i)
-      [ yes e ↦ rw (e, upd-same f i v) here
-      | no ne ↦ rw (upd-other f i v j ne) (there j ne) ]
+    elim (ℕ-discrete j i) [
+      | yes e ↦ rw (e, upd-same f i v) here
+      | no ne ↦ rw (upd-other f i v j ne) (there j ne)
+    ]
 
 pub upd-all₂ : {X Y : Type 0} (P : ℕ → X → Y → Type 0) (f : ℕ → X) (g : ℕ → Y) (i : ℕ) (v : X) (w : Y) →
-  P i v w → ((j : ℕ) → j ≢ i → P j (f j) (g j)) → (j : ℕ) → P j (upd f i v j) (upd g i w j)
+    P i v w → ((j : ℕ) → j ≢ i → P j (f j) (g j)) → (j : ℕ) → P j (upd f i v j) (upd g i w j)
 upd-all₂ P f g i v w here there j =
-    elim (ℕ-discrete j i)
-      [ yes e ↦ rw (e, upd-same f i v, upd-same g i w) here
-      | no ne ↦ rw (upd-other f i v j ne, upd-other g i w j ne) (there j ne) ]
+    elim (ℕ-discrete j i) [
+      | yes e ↦ rw (e, upd-same f i v, upd-same g i w) here
+      | no ne ↦ rw (upd-other f i v j ne, upd-other g i w j ne) (there j ne)
+    ]
 
 -- where a value that is read stands
 pub data Seen {X : Type 0} (f : ℕ → X) (i : ℕ) (v : X) (j : ℕ) (x : X) : Type 0 where
@@ -43,6 +45,7 @@ pub data Seen {X : Type 0} (f : ℕ → X) (i : ℕ) (v : X) (j : ℕ) (x : X) :
 
 pub upd-view : {X : Type 0} (f : ℕ → X) (i : ℕ) (v : X) (j : ℕ) (x : X) → upd f i v j ≡ x → Seen f i v j x
 upd-view f i v j x h =
-    elim (ℕ-discrete j i)
-      [ yes e ↦ new e (rw (e, upd-same f i v) at h)
-      | no ne ↦ old ne (sym (upd-other f i v j ne) ∙ h) ]
+    elim (ℕ-discrete j i) [
+      | yes e ↦ new e (rw (e, upd-same f i v) at h)
+      | no ne ↦ old ne (sym (upd-other f i v j ne) ∙ h)
+    ]

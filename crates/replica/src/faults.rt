@@ -1,4 +1,5 @@
 //! Why a replica or a database refuses a call.
+use std::error::Error;
 use std::fmt;
 
 /// The refusals of a replica, of a database, and of a bank of them. A refused call changes nothing.
@@ -36,3 +37,5 @@ pub impl fmt::Display for Fault as FaultDisplay {
         }
     }
 }
+
+pub impl Error for Fault as FaultError {}

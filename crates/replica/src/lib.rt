@@ -9,6 +9,7 @@ pub use databases::Database;
 pub use faults::Fault;
 pub use faults::FaultDebug;
 pub use faults::FaultDisplay;
+pub use faults::FaultError;
 pub use faults::FaultPartialEq;
 pub use replaying::CELLS;
 pub use replaying::SLOTS;

@@ -25,6 +25,7 @@ same-statement a b p q = other-cell (b .cell) p (b .operation) q (b .«cell_fits
     other-operation o e =
         let P : Operation → Type 0 = λ x. (l : a .cell < 64) (f : member-fits x ≡ true) → a ≡ make (a .cell) x l f in
         subst P e (λ l f. same-facts (a .cell) (a .operation) (a .«cell_fits») l (a .«member_fits») f)
+
     other-cell : (c : ℕ) → a .cell ≡ c → (o : Operation) → a .operation ≡ o → (l : c < 64) (f : member-fits o ≡ true) → a ≡ make c o l f
     other-cell c e o d =
         let P : ℕ → Type 0 = λ x. (l : x < 64) (f : member-fits o ≡ true) → a ≡ make x o l f in

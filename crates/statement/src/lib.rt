@@ -14,5 +14,5 @@ pub use checked::StatementPartialEq;
 pub use operation::Operation;
 pub use operation::OperationPartialEq;
 pub use wording::MissingDisplay;
+pub use wording::MissingError;
 pub use wording::StatementDisplay;
-

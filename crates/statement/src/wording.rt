@@ -1,9 +1,11 @@
 //! Statements and their refusals as text.
 ghost use Rattle.std.specs.declared.option.Option.the-variants.{Some};
 ghost use Rattle.statement.specs.Words.{statement-words, missing-words};
+use crate::MissingDebug;
 use crate::checked::Missing;
 use crate::checked::Statement;
 use crate::operation::Operation;
+use std::error::Error;
 use std::fmt;
 
 /// The words of a run file: the operation, the cell, and the value or member.
@@ -34,3 +36,5 @@ pub impl fmt::Display for Missing as MissingDisplay {
         }
     }
 }
+
+pub impl Error for Missing as MissingError {}

@@ -17,24 +17,88 @@ struct Case {
 }
 
 const EFFECTS: [Case; 12] = [
-    Case { operation: Operation::Get, before: 4, value: 4, answer: 4 },
-    Case { operation: Operation::Set(9), before: 4, value: 9, answer: 4 },
-    Case { operation: Operation::Add(1), before: 18446744073709551615, value: 0, answer: 0 },
-    Case { operation: Operation::Take(5), before: 4, value: 4, answer: 0 },
-    Case { operation: Operation::Take(4), before: 4, value: 0, answer: 1 },
-    Case { operation: Operation::Join(63), before: 0, value: 9223372036854775808, answer: 1 },
-    Case { operation: Operation::Join(63), before: 9223372036854775808, value: 9223372036854775808, answer: 0 },
-    Case { operation: Operation::Leave(0), before: 11, value: 10, answer: 1 },
-    Case { operation: Operation::Leave(2), before: 11, value: 11, answer: 0 },
-    Case { operation: Operation::Heads, before: 11, value: 11, answer: 3 },
-    Case { operation: Operation::Heads, before: 0, value: 0, answer: 0 },
-    Case { operation: Operation::Heads, before: 18446744073709551615, value: 18446744073709551615, answer: 64 },
+    Case {
+        operation: Operation::Get,
+        before: 4,
+        value: 4,
+        answer: 4,
+    },
+    Case {
+        operation: Operation::Set(9),
+        before: 4,
+        value: 9,
+        answer: 4,
+    },
+    Case {
+        operation: Operation::Add(1),
+        before: 18446744073709551615,
+        value: 0,
+        answer: 0,
+    },
+    Case {
+        operation: Operation::Take(5),
+        before: 4,
+        value: 4,
+        answer: 0,
+    },
+    Case {
+        operation: Operation::Take(4),
+        before: 4,
+        value: 0,
+        answer: 1,
+    },
+    Case {
+        operation: Operation::Join(63),
+        before: 0,
+        value: 9223372036854775808,
+        answer: 1,
+    },
+    Case {
+        operation: Operation::Join(63),
+        before: 9223372036854775808,
+        value: 9223372036854775808,
+        answer: 0,
+    },
+    Case {
+        operation: Operation::Leave(0),
+        before: 11,
+        value: 10,
+        answer: 1,
+    },
+    Case {
+        operation: Operation::Leave(2),
+        before: 11,
+        value: 11,
+        answer: 0,
+    },
+    Case {
+        operation: Operation::Heads,
+        before: 11,
+        value: 11,
+        answer: 3,
+    },
+    Case {
+        operation: Operation::Heads,
+        before: 0,
+        value: 0,
+        answer: 0,
+    },
+    Case {
+        operation: Operation::Heads,
+        before: 18446744073709551615,
+        value: 18446744073709551615,
+        answer: 64,
+    },
 ];
 
 /// Whether the statement of a case leaves and answers what the case says.
 fn is_right(case: Case) -> bool {
     match Statement::new(63, case.operation) {
-        Ok(statement) => statement.apply(case.before) == Effect { value: case.value, answer: case.answer },
+        Ok(statement) => statement.apply(case.before)
+            == Effect {
+                value: case.value,
+                answer: case.answer,
+            },
         Err(_) => false,
     }
 }

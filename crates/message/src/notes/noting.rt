@@ -14,7 +14,11 @@ impl Notes {
         ensures statements { λ r. ⌜ statements-of r ≡ [] ⌝ }
         ensures results { λ r. ⌜ results-of r ≡ [] ⌝ }
     {
-        Notes { statements: [Statement::reading_first(); STATEMENTS], results: [0; STATEMENTS], count: 0 }
+        Notes {
+            statements: [Statement::reading_first(); STATEMENTS],
+            results: [0; STATEMENTS],
+            count: 0,
+        }
     }
 
     /// How many statements there are.

@@ -46,7 +46,10 @@ impl Statement {
     pub fn reading_first() -> Statement
         ensures { λ r. ⌜ (r .cell ≡ 0) × (r .operation ≡ Operation.Get) ⌝ }
     {
-        Statement { cell: 0, operation: Operation::Get }
+        Statement {
+            cell: 0,
+            operation: Operation::Get,
+        }
     }
 
     /// The cell, from 0 to 63.

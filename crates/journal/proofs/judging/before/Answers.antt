@@ -26,7 +26,8 @@ loop-q-again g c =
     let q = c .loop-q .q in
     let m = msg-of (c .in-Ok .message .now) in
     let e : at l (q + 1) ≡ next (at l q) m = at-next l q m (sym (c .in-Ok .ensures tt)) in
-    let s = c .past-so-far .ensures .step (at l q) (c .loop-q .inv .1) (c .loop-q .inv .0) in
-    ((s .0 ∙ sym (ap (λ j. j .epoch) e), s .1 ∙ sym (ap (λ j. j .seen (c .args .client) (c .args .job)) e))
-    , ap (λ j. j .count) e ∙ next-count (at l q) m ∙ ap (λ n. n + 1) (c .loop-q .inv .1)
-    , omega (arith, c .past-so-far .ensures .slow, c .loop-q .inv .2))
+    let s = c .past-so-far .ensures .step (at l q) (c .loop-q .inv .1) (c .loop-q .inv .0) in (
+      (s .0 ∙ sym (ap (λ j. j .epoch) e), s .1 ∙ sym (ap (λ j. j .seen (c .args .client) (c .args .job)) e)),
+      ap (λ j. j .count) e ∙ next-count (at l q) m ∙ ap (λ n. n + 1) (c .loop-q .inv .1),
+      omega (arith, c .past-so-far .ensures .slow, c .loop-q .inv .2),
+    )

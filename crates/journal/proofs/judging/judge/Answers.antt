@@ -28,7 +28,7 @@ returns-then-change-then g c =
     let j = at l (c .args .position) in
     let h = c .in-Epoch .change in
     judged-is l (c .args .position) (msg-of (c .in-Ok .message .now)) _ (sym (c .in-Ok .ensures tt))
-      (ap (λ m. judge j (msg-of m)) (c .in-Epoch .is) ∙ epoch-judged j (h .sender) (h .epoch) false (ne-eqb (h .epoch) (j .epoch) (λ s. c .if-change-then .taken (s ∙ sym (c .before-then .ensures .0)))))
+    (ap (λ m. judge j (msg-of m)) (c .in-Epoch .is) ∙ epoch-judged j (h .sender) (h .epoch) false (ne-eqb (h .epoch) (j .epoch) (λ s. c .if-change-then .taken (s ∙ sym (c .before-then .ensures .0)))))
 
 pub returns-else-change-then : need.returns-else-change-then
 returns-else-change-then g c =
@@ -36,7 +36,7 @@ returns-else-change-then g c =
     let j = at l (c .args .position) in
     let h = c .in-Epoch .change in
     judged-is l (c .args .position) (msg-of (c .in-Ok .message .now)) _ (sym (c .in-Ok .ensures tt))
-      (ap (λ m. judge j (msg-of m)) (c .in-Epoch .is) ∙ epoch-judged j (h .sender) (h .epoch) true (eq-eqb (h .epoch) (j .epoch) (c .if-change-then .left ∙ c .before-then .ensures .0)))
+    (ap (λ m. judge j (msg-of m)) (c .in-Epoch .is) ∙ epoch-judged j (h .sender) (h .epoch) true (eq-eqb (h .epoch) (j .epoch) (c .if-change-then .left ∙ c .before-then .ensures .0)))
 
 pub returns-then-t-then : need.returns-then-t-then
 returns-then-t-then g c =
@@ -44,7 +44,7 @@ returns-then-t-then g c =
     let j = at l (c .args .position) in
     let t = tx-of (c .in-Transaction .t) in
     judged-is l (c .args .position) (msg-of (c .in-Ok .message .now)) _ (sym (c .in-Ok .ensures tt))
-      (ap (λ m. judge j (msg-of m)) (c .in-Transaction .is) ∙ transaction-judged j t false (j .seen (t .client) (t .job)) (ne-eqb (t .epoch) (j .epoch) (λ s. c .if-t-then .taken (s ∙ sym (c .before-then-in-Transaction .ensures .0)))) (refl))
+    (ap (λ m. judge j (msg-of m)) (c .in-Transaction .is) ∙ transaction-judged j t false (j .seen (t .client) (t .job)) (ne-eqb (t .epoch) (j .epoch) (λ s. c .if-t-then .taken (s ∙ sym (c .before-then-in-Transaction .ensures .0)))) (refl))
 
 pub returns-in-Some : need.returns-in-Some
 returns-in-Some g c =
@@ -52,7 +52,7 @@ returns-in-Some g c =
     let j = at l (c .args .position) in
     let t = tx-of (c .in-Transaction .t) in
     judged-is l (c .args .position) (msg-of (c .in-Ok .message .now)) _ (sym (c .in-Ok .ensures tt))
-      (ap (λ m. judge j (msg-of m)) (c .in-Transaction .is) ∙ transaction-judged j t true (Some (c .in-Some .earlier)) (eq-eqb (t .epoch) (j .epoch) (c .if-t-then .left ∙ c .before-then-in-Transaction .ensures .0)) (sym (c .before-then-in-Transaction .ensures .1) ∙ c .in-Some .is))
+    (ap (λ m. judge j (msg-of m)) (c .in-Transaction .is) ∙ transaction-judged j t true (Some (c .in-Some .earlier)) (eq-eqb (t .epoch) (j .epoch) (c .if-t-then .left ∙ c .before-then-in-Transaction .ensures .0)) (sym (c .before-then-in-Transaction .ensures .1) ∙ c .in-Some .is))
 
 pub returns-in-None : need.returns-in-None
 returns-in-None g c =
@@ -60,4 +60,4 @@ returns-in-None g c =
     let j = at l (c .args .position) in
     let t = tx-of (c .in-Transaction .t) in
     judged-is l (c .args .position) (msg-of (c .in-Ok .message .now)) _ (sym (c .in-Ok .ensures tt))
-      (ap (λ m. judge j (msg-of m)) (c .in-Transaction .is) ∙ transaction-judged j t true None (eq-eqb (t .epoch) (j .epoch) (c .if-t-then .left ∙ c .before-then-in-Transaction .ensures .0)) (sym (c .before-then-in-Transaction .ensures .1) ∙ c .in-None .is))
+    (ap (λ m. judge j (msg-of m)) (c .in-Transaction .is) ∙ transaction-judged j t true None (eq-eqb (t .epoch) (j .epoch) (c .if-t-then .left ∙ c .before-then-in-Transaction .ensures .0)) (sym (c .before-then-in-Transaction .ensures .1) ∙ c .in-None .is))
