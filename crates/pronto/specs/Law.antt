@@ -67,7 +67,7 @@ pub record Lawful-on (h h′ : History) (s s′ : State) : Type 0 where
   pub second : Lawful (h ++ h′) s′
   pub begins : (l : List Msg) × (s′ .log ≡ s .log ++ l)
 
--- The law: of any ensemble of n servers, with at least n databases of any units and any broadcast of a capacity below 2^64, made
+-- The law: of any ensemble of n servers, with at least n databases of any units and any broadcast of a capacity of at most 4096, made
 -- new, and of any two moments of any list of acts.
 abbrev pub Law : Type 0
 Law =

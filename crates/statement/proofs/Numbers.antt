@@ -1,16 +1,19 @@
 -- Statements of one cell and one operation are one, so a statement that is made is the one of its numbers.
 use mathlib.Core.Path.{_≡_, refl, sym, ap, _∙_, subst}
-use mathlib.Core.Bool.{Bool, true, false, cond, Bool-set}
+use mathlib.Core.Bool.{Bool, true, false, cond, not, Bool-set}
 use Prim.Native.Nat.{ℕ, _<_}
 use native.Mathlib.Bridge.{le-prop}
 use lib.Dec.{ltb}
 use Rattle.std.specs.declared.option.Option.{Option}
 use Rattle.std.specs.declared.option.Option.the-variants.{Some, None}
+use Rattle.std.specs.Options.{isSome}
 use Rattle.std.proofs.shelf.Tests.{lt-ltb, true≢false}
 use Rattle.statement.specs.declared.operation.Operation.{Operation}
+use Rattle.statement.specs.declared.operation.Operation.the-variants.{Get, Set, Add, Take, Join, Leave, Heads}
+use Rattle.statement.specs.declared.checked.Missing.the-variants.{Cell, Member}
 use Rattle.statement.specs.declared.checked.Statement.{Statement}
 use Rattle.statement.specs.Operations.{member-fits}
-use Rattle.statement.specs.Making.{checked, checked-at}
+use Rattle.statement.specs.Making.{missing-member, missing, checked, checked-at}
 
 abbrev make : (c : ℕ) (o : Operation) → c < 64 → member-fits o ≡ true → Statement
 make c o low fits = record { cell = c; operation = o; «cell_fits» = low; «member_fits» = fits }
@@ -43,3 +46,30 @@ checked-own a = by (ltb (a .cell) 64) (member-fits (a .operation)) refl refl (lt
 
 pub checked-is : (a : Statement) (c : ℕ) (o : Operation) → a .cell ≡ c → a .operation ≡ o → checked c o ≡ Some a
 checked-is a c o p q = ap (λ x. checked x o) (sym p) ∙ ap (checked (a .cell)) (sym q) ∙ checked-own a
+
+-- there is a statement of these numbers exactly where none of them is missing
+member-missing : (o : Operation) → isSome (missing-member o) ≡ not (member-fits o)
+member-missing Get = refl
+member-missing (Set v) = refl
+member-missing (Add v) = refl
+member-missing (Take v) = refl
+member-missing (Join m) = by (ltb m 64)
+  where
+    by : (b : Bool) → isSome (cond b None (Some (Member m))) ≡ not b
+    by true = refl
+    by false = refl
+member-missing (Leave m) = by (ltb m 64)
+  where
+    by : (b : Bool) → isSome (cond b None (Some (Member m))) ≡ not b
+    by true = refl
+    by false = refl
+member-missing Heads = refl
+
+pub checked-made : (c : ℕ) (o : Operation) → isSome (checked c o) ≡ not (isSome (missing c o))
+unfolding checked
+checked-made c o = by (ltb c 64) (member-fits o) refl refl
+  where
+    by : (x y : Bool) (p : ltb c 64 ≡ x) (q : member-fits o ≡ y) → isSome (checked-at c o x y p q) ≡ not (isSome (cond x (missing-member o) (Some (Cell c))))
+    by true true p q = sym (ap not (member-missing o ∙ ap not q))
+    by true false p q = sym (ap not (member-missing o ∙ ap not q))
+    by false y p q = refl
