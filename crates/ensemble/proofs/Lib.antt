@@ -1,0 +1,3 @@
+pub mod Lifts
+pub mod Sent
+pub mod Told
