@@ -1,4 +1,5 @@
 //! Making an ensemble.
+ghost use mathlib.Core.Path.{_≡_};
 ghost use Rattle.ensemble.specs.Making.{Makes};
 use super::Ensemble;
 use crate::places::Places;
@@ -38,5 +39,19 @@ impl<B: Broadcast, K: DatabaseBank> Ensemble<B, K> {
             count,
             sent: 0,
         })
+    }
+
+    /// Takes the ensemble apart: the broadcast and the bank, as the acts left them.
+    pub fn into_parts(self) -> (B, K)
+        ensures { λ r. ⌜ (r .0 ≡ self .broadcast) × (r .1 ≡ self .bank) ⌝ }
+    {
+        let Ensemble {
+            broadcast,
+            bank,
+            servers: _,
+            count: _,
+            sent: _,
+        } = self;
+        (broadcast, bank)
     }
 }
