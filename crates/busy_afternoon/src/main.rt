@@ -239,19 +239,20 @@ fn afternoon(rt: &LibcRuntime) -> Result<(), AnyError> {
             },
         },
     };
-    let Ok(outcome) = play_new(rt.alloc(), broadcast, bank, SERVERS, &AFTERNOON) else {
+    let mut history = Vec::with_capacity(rt.alloc(), AFTERNOON.len())?;
+    let Ok(ensemble) = play_new(broadcast, bank, SERVERS, &AFTERNOON, &mut history) else {
         return Err("the afternoon was not played".into());
     };
-    show_history(rt, outcome.history.as_slice())?;
+    show_history(rt, history.as_slice())?;
     println!(rt, "== the log")?;
-    show_log(rt, &outcome.ensemble, outcome.history.as_slice())?;
+    show_log(rt, &ensemble, history.as_slice())?;
     println!(rt, "== the servers")?;
-    show_server(rt, &outcome.ensemble, 1)?;
-    show_server(rt, &outcome.ensemble, 2)?;
-    show_server(rt, &outcome.ensemble, 3)?;
-    let sent = outcome.ensemble.sent();
-    let ordered = outcome.ensemble.ordered();
-    let waiting = outcome.ensemble.waiting();
+    show_server(rt, &ensemble, 1)?;
+    show_server(rt, &ensemble, 2)?;
+    show_server(rt, &ensemble, 3)?;
+    let sent = ensemble.sent();
+    let ordered = ensemble.ordered();
+    let waiting = ensemble.waiting();
     println!(rt, "sent {sent}, ordered {ordered}, waiting {waiting}")?;
     show_size(rt)?;
     Ok(())

@@ -4,7 +4,6 @@ pub mod plays;
 
 pub use performing::perform;
 pub use plays::NoRoom;
-pub use plays::Outcome;
 pub use plays::Unplayed;
 pub use plays::play;
 pub use plays::play_new;
