@@ -9,7 +9,7 @@ use lib.ListN.{length, getD, set, replicate}
 use Rattle.std.specs.declared.option.Option.{Option}
 use Rattle.std.specs.declared.option.Option.the-variants.{Some, None}
 use Rattle.statement.specs.declared.checked.Statement.{Statement}
-use Rattle.replica.specs.Meanings.{Meaning, Slot, put, slot-of, current, fresh, or-else, all-stepped}
+use Rattle.replica.specs.Meanings.{Slot, put, slot-of, current, fresh, or-else, all-stepped}
 use Rattle.replica.specs.Calls.{cleared, taken-in, opened, written-into, looked-at, sealed, undone, lost}
 use Rattle.replica.proofs.Indices.{set-at, all-same}
 use Rattle.replica.proofs.Same.{same-meaning}

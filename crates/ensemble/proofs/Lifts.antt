@@ -10,16 +10,16 @@ use lib.Dec.{eqb, ltb}
 use lib.ListN.{length, getD, set}
 use borrow.Author.Tests.{ltb-false}
 use Rattle.std.specs.declared.option.Option.{Option}
-use Rattle.std.specs.declared.option.Option.the-variants.{Some, None}
+use Rattle.std.specs.declared.option.Option.the-variants.{Some}
 use Rattle.std.specs.declared.result.Result.{Result}
 use Rattle.std.specs.declared.result.Result.the-variants.{Ok, Err}
-use Rattle.std.proofs.shelf.Tests.{cond-true, cond-false, eq-eqb, ne-eqb, true≢false}
+use Rattle.std.proofs.shelf.Tests.{cond-true, cond-false, eq-eqb, true≢false}
 use Rattle.replica.specs.Meanings.{Meaning, upd}
 use Rattle.replica.proofs.Updates.{upd-same, upd-other}
 use Rattle.message.specs.Messages.{Msg}
 use Rattle.broadcast.specs.Bags.{nth}
 use Rattle.pronto.specs.Servers.{Site, new-site}
-use Rattle.pronto.specs.States.{State, no-server, with-servers, at-server, why-at, At}
+use Rattle.pronto.specs.States.{State, no-server, with-servers, at-server, At}
 use Rattle.pronto.specs.declared.faults.ServerFault.{ServerFault}
 use Rattle.pronto.specs.declared.refusals.Refusal.{Refusal}
 use Rattle.pronto.specs.declared.refusals.Refusal.the-variants as refusal

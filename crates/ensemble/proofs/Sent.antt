@@ -1,16 +1,15 @@
 -- Acts that send a message: why one is refused, and the whole after an offer.
-use mathlib.Core.Path.{_≡_, refl, sym, ap, _∙_, subst}
-use mathlib.Core.Bool.{Bool, true, false, cond}
+use mathlib.Core.Path.{_≡_, sym, ap, _∙_, subst}
+use mathlib.Core.Bool.{true, false}
 use mathlib.Core.List.{List}
 use Prim.Native.Nat.{ℕ, _+_, _<_, _≤_}
 use lib.ListN.{length}
 use Rattle.std.specs.declared.option.Option.{Option}
 use Rattle.std.specs.declared.option.Option.the-variants.{Some, None}
 use Rattle.std.proofs.shelf.Tests.{cond-true, cond-false, le-leb, lt-leb}
-use Rattle.replica.specs.Meanings.{Meaning}
 use Rattle.message.specs.Messages.{Msg}
 use Rattle.pronto.specs.Servers.{Site}
-use Rattle.pronto.specs.States.{State, no-server, is-full, with-servers, with-messages, at-server, why-at}
+use Rattle.pronto.specs.States.{State, no-server, is-full, with-messages, at-server, why-at}
 use Rattle.pronto.specs.Acts.{unless-full}
 use Rattle.pronto.specs.declared.faults.ServerFault.{ServerFault}
 use Rattle.pronto.specs.declared.refusals.Refusal.{Refusal}

@@ -1,7 +1,7 @@
 -- Questions, from what the code read at the server's place; and a new ensemble.
-use mathlib.Core.Path.{_≡_, refl, sym, ap, _∙_, subst, fun-ext}
+use mathlib.Core.Path.{_≡_, refl, ap, _∙_, fun-ext}
 use mathlib.Core.Bool.{Bool, true, false, cond, _||_}
-use mathlib.Core.List.{List, [], _∷_}
+use mathlib.Core.List.{List, []}
 use Prim.Native.Nat.{ℕ, zero, suc, _+_, _-_, _<_, _≤_}
 use native.Mathlib.Omega.{arith}
 use lib.Dec.{eqb, ltb}
@@ -18,7 +18,6 @@ use Rattle.message.specs.Messages.{Msg}
 use Rattle.broadcast.specs.Bags.{nth}
 use Rattle.bank.specs.Places.{cleared-below}
 use Rattle.pronto.specs.Servers.{Site, new-site, with-db}
-use Rattle.pronto.specs.Refusing.{find}
 use Rattle.pronto.specs.States.{State, no-server, new-state}
 use Rattle.pronto.specs.declared.refusals.Refusal.{Refusal}
 use Rattle.pronto.specs.declared.refusals.Refusal.the-variants as refusal

@@ -1,6 +1,6 @@
 -- Questions: what each tells, and when it is turned down.
 use mathlib.Core.Path.{_≡_}
-use mathlib.Core.Bool.{Bool, true, false, cond}
+use mathlib.Core.Bool.{Bool, cond}
 use Prim.Native.Nat.{ℕ}
 use lib.Dec.{ltb}
 use denote.Ref.{RefT, now}

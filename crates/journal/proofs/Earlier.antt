@@ -12,7 +12,7 @@ use Rattle.std.specs.declared.option.Option.the-variants.{Some, None}
 use Rattle.statement.specs.declared.checked.Statement.{Statement}
 use Rattle.replica.specs.Meanings.{upd, stepped, all-stepped}
 use Rattle.replica.proofs.Updates.{upd-same, upd-other}
-use Rattle.message.specs.Messages.{Tx, Msg, epoch-change, transaction}
+use Rattle.message.specs.Messages.{Tx, Msg, transaction}
 use Rattle.journal.specs.Judging.{committed, Summary, judge, next, start, from, at}
 use Rattle.journal.specs.Positions.{Committed, to-run, all-to-run, Earlier-told, One-run, First-epoch}
 use Rattle.journal.proofs.Summaries.{at-start, next-count}

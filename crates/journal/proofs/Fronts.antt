@@ -1,6 +1,5 @@
 -- Fronts of a log: one message more, an old position in a longer log, how a message is judged, and that the epoch never falls.
 use mathlib.Core.Path.{_≡_, refl, sym, ap, _∙_}
-use mathlib.Core.Bool.{Bool, true, false, cond}
 use mathlib.Core.Logic.{_≢_}
 use mathlib.Core.List.{List, [], _∷_, _++_}
 use Prim.Native.Nat.{ℕ, zero, suc, _+_, _≤_, _<_}
@@ -13,7 +12,7 @@ use Rattle.std.specs.declared.option.Option.the-variants.{Some, None}
 use Rattle.std.proofs.shelf.Lists.{take-append-le, take-all, take-take, take-append-drop}
 use Rattle.std.proofs.shelf.Tests.{eq-eqb, ne-eqb}
 use Rattle.message.specs.Messages.{Tx, Msg, epoch-change, transaction}
-use Rattle.journal.specs.Judging.{Judged, accepted, stale, committed, late, again, Summary, judge, next, start, from, at}
+use Rattle.journal.specs.Judging.{accepted, stale, committed, late, again, Summary, judge, next, start, from, at}
 
 pub from-append : (j : Summary) (X Y : List Msg) → from j (X ++ Y) ≡ from (from j X) Y
 from-append j [] Y = refl

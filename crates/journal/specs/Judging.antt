@@ -1,13 +1,13 @@
 -- Judging a log: the epoch in force, what each message comes to, and the single run.
-use mathlib.Core.Bool.{Bool, true, false, cond}
-use mathlib.Core.List.{List, [], _∷_, _++_}
+use mathlib.Core.Bool.{cond}
+use mathlib.Core.List.{List, [], _∷_}
 use Prim.Native.Nat.{ℕ, _+_, _-_, _%_}
 use lib.Dec.{eqb}
 use lib.ListN.{take}
 use Rattle.std.specs.declared.option.Option.{Option}
 use Rattle.std.specs.declared.option.Option.the-variants.{Some, None}
 use Rattle.replica.specs.Meanings.{all-stepped, upd}
-use Rattle.message.specs.Messages.{Tx, Msg, epoch-change, transaction}
+use Rattle.message.specs.Messages.{Msg, epoch-change, transaction}
 
 pub data Judged : Type 0 where
   accepted : Judged

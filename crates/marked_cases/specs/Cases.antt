@@ -3,7 +3,7 @@ use mathlib.Core.Path.{_≡_}
 use mathlib.Core.List.{List, [], _∷_, map}
 use Prim.Native.Nat.{ℕ, _-_, _^_}
 use Rattle.std.specs.declared.option.Option.{Option}
-use Rattle.std.specs.declared.option.Option.the-variants.{Some, None}
+use Rattle.std.specs.declared.option.Option.the-variants.{Some}
 use Rattle.statement.specs.declared.operation.Operation.the-variants.{Add, Take, Join, Heads}
 use Rattle.statement.specs.Operations.{changed, answered}
 use Rattle.deferred.specs.Units.{unit-of-eight}

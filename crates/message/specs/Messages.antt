@@ -3,7 +3,6 @@ use mathlib.Core.List.{List}
 use Prim.Native.Nat.{ℕ}
 use Rattle.statement.specs.declared.checked.Statement.{Statement}
 use Rattle.message.specs.Noted.{statements-of, results-of}
-use Rattle.message.specs.declared.messages.EpochChange.{EpochChange}
 use Rattle.message.specs.declared.messages.Transaction.{Transaction}
 use Rattle.message.specs.declared.messages.Message.{Message}
 use Rattle.message.specs.declared.messages.Message.the-variants as message

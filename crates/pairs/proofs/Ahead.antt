@@ -1,19 +1,19 @@
 -- One database ahead of the others: its calls, and theirs, as the bank's.
-use mathlib.Core.Path.{_≡_, refl, sym, ap, _∙_, subst, fun-ext}
+use mathlib.Core.Path.{_≡_, refl, sym, ap, _∙_, fun-ext}
 use mathlib.Core.Bool.{Bool, true, false, cond}
 use mathlib.Core.Logic.{_≢_}
-use Prim.Native.Nat.{ℕ, zero, suc, _+_, _-_, _<_, _≤_}
+use Prim.Native.Nat.{ℕ, zero, suc, _+_, _-_, _<_}
 use native.Mathlib.Omega.{arith}
 use native.Mathlib.Decide.{ℕ-discrete}
 use lib.Dec.{eqb, ltb}
 use Rattle.std.specs.declared.option.Option.{Option}
-use Rattle.std.specs.declared.option.Option.the-variants.{Some, None}
+use Rattle.std.specs.declared.option.Option.the-variants.{Some}
 use Rattle.std.specs.declared.result.Result.{Result}
 use Rattle.std.specs.declared.result.Result.the-variants.{Ok, Err}
 use Rattle.std.proofs.shelf.Tests.{cond-true, cond-false, eq-eqb, ne-eqb, lt-ltb, le-ltb}
 use Rattle.replica.specs.declared.faults.Fault.{Fault}
 use Rattle.replica.specs.declared.faults.Fault.the-variants.{NoDatabase}
-use Rattle.replica.specs.Meanings.{Meaning, put, upd}
+use Rattle.replica.specs.Meanings.{Meaning, upd}
 use Rattle.replica.specs.Calls.{cleared, lost}
 use Rattle.replica.specs.Outcomes.{Told}
 use Rattle.bank.specs.Places.{ahead, cleared-below, ToldAt}

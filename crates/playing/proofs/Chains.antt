@@ -8,7 +8,6 @@ use Rattle.replica.specs.Meanings.{Meaning}
 use Rattle.pronto.specs.States.{State, new-state}
 use Rattle.pronto.specs.Steps.{Step, Leads-to}
 use Rattle.pronto.specs.Histories.{History}
-use Rattle.pronto.specs.Law.{Lawful, Lawful-on}
 use Rattle.pronto.proofs.Holds.{law}
 use Rattle.pronto.specs.declared.acts.Act.{Act}
 use Rattle.pronto.specs.declared.acts.Answer.{Answer}

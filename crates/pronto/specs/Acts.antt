@@ -1,7 +1,7 @@
 -- The nine acts: for each its answer and the whole state afterwards. Free are only the slot of a begin and the message of an order.
 use mathlib.Core.Path.{_≡_}
-use mathlib.Core.Bool.{Bool, true, false, cond}
-use mathlib.Core.List.{List, [], _∷_, _++_}
+use mathlib.Core.Bool.{cond}
+use mathlib.Core.List.{[]}
 use Prim.Native.Nat.{ℕ, _+_, _-_, _%_, _^_, _<_}
 use lib.ListN.{length}
 use Rattle.std.specs.declared.option.Option.{Option}
@@ -16,8 +16,7 @@ use Rattle.pronto.specs.Servers.{Work, Site, begun, stopped, started}
 use Rattle.pronto.specs.Refusing.{first, begin-table, begin-why, run-why, run-result, run-after, find, if-found, open-table, commit-after, abort-why, abort-after, running-table, start-table}
 use Rattle.pronto.specs.Delivering.{deliver-why, deliver-after, Tells}
 use Rattle.replica.specs.Meanings.{upd}
-use Rattle.pronto.specs.States.{State, no-server, is-full, change, with-messages, with-servers, Did, why-at, At}
-use Rattle.pronto.specs.declared.faults.ServerFault.{ServerFault}
+use Rattle.pronto.specs.States.{State, is-full, with-messages, with-servers, why-at, At}
 use Rattle.pronto.specs.declared.refusals.Refusal.{Refusal}
 use Rattle.pronto.specs.declared.refusals.Refusal.the-variants as refusal
 

@@ -1,15 +1,13 @@
 -- The replication law: what holds at every moment of any list of acts on a new ensemble.
 use mathlib.Core.Path.{_≡_}
-use mathlib.Core.List.{List, [], _∷_, _++_, Perm}
+use mathlib.Core.List.{List, _∷_, _++_, Perm}
 use Prim.Native.Nat.{ℕ, _+_, max, _≤_}
 use lib.ListN.{length}
-use Rattle.std.specs.declared.option.Option.{Option}
-use Rattle.std.specs.declared.option.Option.the-variants.{Some}
 use Rattle.replica.specs.Meanings.{Meaning, is-open}
 use Rattle.std.specs.Options.{isSome}
 use Rattle.message.specs.Messages.{Tx, Msg, transaction}
 use Rattle.journal.specs.Runs.{answers}
-use Rattle.journal.specs.Judging.{Judged, committed, at}
+use Rattle.journal.specs.Judging.{committed, at}
 use Rattle.journal.specs.Positions.{Stands, single-run}
 use Rattle.journal.specs.Verdicts.{judged-of}
 use Rattle.journal.specs.declared.verdicts.Judgement.{Judgement}
@@ -26,7 +24,6 @@ use Rattle.pronto.specs.declared.acts.Act.{Act}
 use Rattle.pronto.specs.declared.acts.Act.the-variants as act
 use Rattle.pronto.specs.declared.acts.Answer.{Answer}
 use Rattle.pronto.specs.declared.acts.Answer.the-variants as answer
-use Rattle.pronto.specs.declared.acts.Entry.{Entry}
 
 -- What can be asked of a server about its place in the log.
 abbrev pub standing-of : Site → Standing

@@ -1,8 +1,8 @@
 -- A transaction in a slot: its runs one after another, and what a slot that is undone leaves.
-use mathlib.Core.Path.{_≡_, refl, sym, ap, _∙_, fun-ext}
+use mathlib.Core.Path.{_≡_, refl, sym, ap, _∙_}
 use mathlib.Core.Bool.{Bool, true, false, cond}
 use mathlib.Core.Logic.{⊎-elim}
-use mathlib.Core.List.{List, [], _∷_}
+use mathlib.Core.List.{List}
 use Prim.Native.Nat.{ℕ, _+_, _<_, _≤_}
 use native.Mathlib.Omega.{arith}
 use lib.Dec.{eqb, ltb}
@@ -13,15 +13,15 @@ use Rattle.std.specs.declared.result.Result.{Result}
 use Rattle.std.specs.declared.result.Result.the-variants.{Ok, Err}
 use Rattle.std.specs.Options.{isSome}
 use Rattle.std.proofs.shelf.Lists.{drop-more, drop-all}
-use Rattle.std.proofs.shelf.Tests.{cases-eq, cases-bool, eq-eqb, ne-eqb, cond-true, cond-false, true≢false}
+use Rattle.std.proofs.shelf.Tests.{cases-eq, eq-eqb, ne-eqb, cond-true, cond-false, true≢false}
 use Rattle.statement.specs.declared.checked.Statement.{Statement}
 use Rattle.statement.specs.Operations.{writes-cell, changed}
 use Rattle.replica.specs.declared.faults.Fault.{Fault}
 use Rattle.replica.specs.declared.faults.Fault.the-variants.{NoSlot, SlotOpen, SlotClosed}
-use Rattle.replica.specs.Meanings.{Meaning, Slot, put, fresh, is-open, slot-of, current}
+use Rattle.replica.specs.Meanings.{Meaning, Slot, put, fresh, is-open, current}
 use Rattle.replica.specs.Calls.{opened, written-into, looked-at, ran, sealed, undone}
 use Rattle.replica.specs.Refusals.{open-refusal, run-refusal, seal-refusal, undo-refusal}
-use Rattle.replica.specs.Outcomes.{Seals, Undoes, Told}
+use Rattle.replica.specs.Outcomes.{Seals}
 use Rattle.replica.specs.Transactions.{first-of, ran-all, finish-refusal, Finishes, Transacts}
 use Rattle.replica.proofs.Same.{same-meaning}
 

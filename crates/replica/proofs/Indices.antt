@@ -1,16 +1,15 @@
 -- Lists read as functions of the index.
 use mathlib.Core.Path.{_≡_, refl, sym, ap, _∙_, fun-ext}
 use mathlib.Core.Bool.{Bool, true, false, cond, _||_}
-use mathlib.Core.Logic.{_⊎_, inl, inr, ⊎-elim, _≢_}
-use mathlib.Core.List.{List, [], _∷_}
+use mathlib.Core.Logic.{_⊎_, ⊎-elim, _≢_}
+use mathlib.Core.List.{List}
 use Prim.Native.Nat.{ℕ, zero, suc, _+_, _<_, _≤_}
 use native.Mathlib.Numerals.{add-one}
 use native.Mathlib.Omega.{arith}
-use lib.Dec.{eqb, ltb}
+use lib.Dec.{ltb}
 use lib.ListN.{length, getD, set, replicate, length-replicate}
 use Rattle.std.proofs.shelf.Lists.{getD-set-same, getD-set-other, getD-replicate, getD-past}
 use Rattle.std.proofs.shelf.Tests.{cases-eq, cases-lt, cases-bool, or-from, eq-eqb, ne-eqb, true≢false, lt-ltb, le-ltb}
-use Rattle.std.proofs.shelf.Ways.{tells}
 use Rattle.replica.specs.Meanings.{put, any-below}
 
 -- one place of a list that is written

@@ -1,6 +1,6 @@
 -- A run, put together from what its parts gave.
 use mathlib.Core.Path.{_≡_, sym, ap, _∙_}
-use mathlib.Core.Bool.{Bool, true, false, cond}
+use mathlib.Core.Bool.{Bool, true, false}
 use Prim.Native.Nat.{ℕ}
 use Rattle.std.proofs.shelf.Tests.{cond-true, cond-false}
 use Rattle.statement.specs.declared.checked.Statement.{Statement}

@@ -1,15 +1,13 @@
 -- Which refusal there is, from what was tested.
 use mathlib.Core.Path.{_≡_, ap, _∙_}
-use mathlib.Core.Bool.{Bool, true, false, cond, not}
+use mathlib.Core.Bool.{Bool, true, false, not}
 use Prim.Native.Nat.{ℕ, _<_, _≤_}
 use lib.Dec.{ltb}
-use Rattle.std.specs.declared.option.Option.{Option}
 use Rattle.std.specs.declared.option.Option.the-variants.{Some, None}
 use Rattle.std.proofs.shelf.Tests.{cond-true, cond-false, lt-ltb, le-ltb, eq-eqb, ne-eqb}
 use Rattle.statement.specs.declared.checked.Statement.{Statement}
 use Rattle.statement.specs.Operations.{writes-cell}
-use Rattle.replica.specs.declared.faults.Fault.{Fault}
-use Rattle.replica.specs.declared.faults.Fault.the-variants.{NoCell, NoSlot, SlotOpen, SlotClosed, Busy, NotQuiet, LastPosition}
+use Rattle.replica.specs.declared.faults.Fault.the-variants.{NoSlot, SlotOpen, SlotClosed, Busy, NotQuiet, LastPosition}
 use Rattle.replica.specs.Meanings.{Meaning, is-open, busy, quiet}
 use Rattle.replica.specs.Refusals.{last, open-refusal, run-refusal, seal-refusal, undo-refusal, intake-refusal}
 

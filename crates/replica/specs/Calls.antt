@@ -1,12 +1,11 @@
 -- What each call that is not refused leaves, and what a run answers.
-use mathlib.Core.Bool.{Bool, true, false, cond}
+use mathlib.Core.Bool.{true, cond}
 use mathlib.Core.List.{List}
 use Prim.Native.Nat.{ℕ, _+_}
-use Rattle.std.specs.declared.option.Option.{Option}
 use Rattle.std.specs.declared.option.Option.the-variants.{Some, None}
 use Rattle.statement.specs.declared.checked.Statement.{Statement}
 use Rattle.statement.specs.Operations.{writes-cell, changed, answered}
-use Rattle.replica.specs.Meanings.{Meaning, Slot, put, fresh, slot-of, current, all-stepped}
+use Rattle.replica.specs.Meanings.{Meaning, put, fresh, slot-of, current, all-stepped}
 
 -- clear: cells and mark 0, every slot closed.
 unfoldable pub cleared : Meaning

@@ -1,6 +1,5 @@
 -- A whole transaction: open, several runs, seal; where one is refused, nothing changes.
 use mathlib.Core.Path.{_≡_}
-use mathlib.Core.Bool.{true}
 use mathlib.Core.List.{List, [], _∷_}
 use Prim.Native.Nat.{ℕ}
 use Rattle.std.specs.declared.option.Option.{Option}

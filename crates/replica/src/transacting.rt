@@ -1,5 +1,4 @@
 //! A whole transaction on any database.
-ghost use mathlib.Core.Path.{_≡_};
 ghost use Rattle.replica.specs.Transactions.{Transacts, Finishes};
 use crate::databases::Database;
 use crate::faults::Fault;

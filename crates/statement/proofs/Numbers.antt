@@ -4,7 +4,6 @@ use mathlib.Core.Bool.{Bool, true, false, cond, not, Bool-set}
 use Prim.Native.Nat.{ℕ, _<_}
 use native.Mathlib.Bridge.{le-prop}
 use lib.Dec.{ltb}
-use Rattle.std.specs.declared.option.Option.{Option}
 use Rattle.std.specs.declared.option.Option.the-variants.{Some, None}
 use Rattle.std.specs.Options.{isSome}
 use Rattle.std.proofs.shelf.Tests.{lt-ltb, true≢false}

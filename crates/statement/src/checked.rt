@@ -2,7 +2,6 @@
 ghost use mathlib.Core.Path.{_≡_};
 ghost use mathlib.Core.Bool.{true};
 ghost use Prim.Native.Nat.{_<_};
-ghost use Rattle.std.specs.declared.option.Option.the-variants.{None};
 ghost use Rattle.statement.specs.Operations.{member-fits};
 use crate::operation::Operation;
 use crate::operation::OperationPartialEq;

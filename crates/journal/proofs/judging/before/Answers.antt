@@ -1,10 +1,9 @@
-use mathlib.Core.Path.{_≡_, refl, sym, ap, _∙_, subst}
+use mathlib.Core.Path.{_≡_, sym, ap, _∙_}
 use native.Mathlib.Omega.{arith}
-use Prim.Native.Nat.{ℕ, _+_, _≤_, _<_}
+use Prim.Native.Nat.{_+_, _≤_}
 use lib.ListN.{length}
 use Rattle.message.specs.Messages.{msg-of}
-use Rattle.journal.specs.Judging.{Summary, next, at}
-use Rattle.journal.specs.Verdicts.{Knows}
+use Rattle.journal.specs.Judging.{next, at}
 use Rattle.journal.proofs.Summaries.{at-start, at-next, next-count, nth-none}
 use Rattle.journal.proofs.judging.before.Needs as need
 

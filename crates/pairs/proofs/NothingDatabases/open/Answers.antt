@@ -1,14 +1,8 @@
-use mathlib.Core.Path.{_≡_, refl, sym, ap, _∙_, subst}
-use mathlib.Core.Logic.{_≢_}
-use native.Mathlib.Omega.{arith}
-use Prim.Native.Nat.{ℕ, _+_, _-_}
-use Rattle.replica.specs.Meanings.{Meaning, upd}
-use Rattle.replica.specs.Calls.{cleared, lost, opened, ran, run-answer, sealed, undone, taken-in}
-use Rattle.replica.specs.Refusals.{open-refusal, run-refusal, seal-refusal, undo-refusal, intake-refusal, cell-refusal}
-use Rattle.replica.specs.Outcomes.{Shown}
-use Rattle.bank.specs.Places.{ahead}
-use Rattle.pronto.specs.Refusing.{at-place}
-use Rattle.pairs.proofs.Ahead.{at-first, at-rest, told-first, told-rest, out-first, out-rest, upd-none, all-cleared, put-first, put-rest, out-none}
+use mathlib.Core.Path.{refl}
+use Prim.Native.Nat.{_-_}
+use Rattle.replica.specs.Calls.{cleared}
+use Rattle.replica.specs.Refusals.{open-refusal}
+use Rattle.pairs.proofs.Ahead.{out-none}
 use Rattle.pairs.proofs.NothingDatabases.open.Needs as need
 
 pub returns : need.returns

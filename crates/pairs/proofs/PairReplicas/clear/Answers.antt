@@ -1,4 +1,3 @@
-use native.Mathlib.Omega.{arith}
 use Rattle.pairs.proofs.Ahead.{all-cleared}
 use Rattle.pairs.proofs.PairReplicas.clear.Needs as need
 

@@ -1,5 +1,3 @@
-use borrow.Author.Needs.{needs}
-use mathlib.Core.Path.{_≡_, refl, sym, ap, _∙_}
 use native.Mathlib.Omega.{arith}
 use lib.Seq.{take-all}
 use Rattle.std.proofs.shelf.Lists.{getD-default}

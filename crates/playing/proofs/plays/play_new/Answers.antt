@@ -1,6 +1,5 @@
 use borrow.Author.Needs.{needs}
 use Prim.Native.Nat.{_+_, _-_}
-use native.Mathlib.Omega.{arith}
 use Rattle.ensemble.specs.Whole.{state}
 use Rattle.playing.proofs.Chains.{new-played}
 use Rattle.playing.proofs.plays.play_new.Needs as need

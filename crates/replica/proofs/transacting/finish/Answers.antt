@@ -1,15 +1,7 @@
-use mathlib.Core.Path.{_≡_, sym, ap, _∙_}
-use Rattle.std.specs.declared.result.Result.{Result}
-use Rattle.std.specs.declared.result.Result.the-variants.{Ok, Err}
+use mathlib.Core.Path.{sym, ap, _∙_}
 use Rattle.std.proofs.shelf.Results.{err-from-errBy}
-use Rattle.statement.specs.declared.checked.Statement.{Statement}
-use mathlib.Core.List.{List}
-use Prim.Native.Nat.{ℕ}
-use Rattle.replica.specs.declared.faults.Fault.{Fault}
-use Rattle.replica.specs.Meanings.{Meaning, is-open}
-use Rattle.replica.specs.Calls.{undone, sealed}
-use Rattle.replica.specs.Outcomes.{Seals}
-use Rattle.replica.specs.Transactions.{Finishes}
+use Rattle.replica.specs.Meanings.{is-open}
+use Rattle.replica.specs.Calls.{undone}
 use Rattle.replica.proofs.Finishing.{one-more, one-refused, no-more, sealed-last}
 use Rattle.replica.proofs.transacting.finish.Needs as need
 

@@ -1,8 +1,6 @@
-use borrow.Author.Needs.{needs}
-use mathlib.Core.Path.{_≡_, sym, _∙_}
+use mathlib.Core.Path.{_≡_}
 use Prim.Native.Nat.{ℕ}
 use native.Mathlib.Omega.{arith}
-use Rattle.replica.specs.Transactions.{Finishes}
 use Rattle.replica.proofs.Finishing.{taken-back, undo-serves}
 use Rattle.replica.proofs.transacting.transact.Needs as need
 

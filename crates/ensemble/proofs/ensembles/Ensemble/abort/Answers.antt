@@ -1,11 +1,8 @@
-use borrow.Author.Needs.{needs}
-use native.Mathlib.Omega.{arith}
-use mathlib.Core.Path.{_≡_, refl, sym, ap, _∙_, subst}
-use Prim.Native.Nat.{ℕ, _-_}
-use lib.ListN.{length, getD}
+use mathlib.Core.Path.{_≡_}
+use Prim.Native.Nat.{_-_}
+use lib.ListN.{length}
 use Rattle.pronto.specs.Refusing.{abort-why, abort-after}
 use Rattle.pronto.specs.Acts.{Nothing-told}
-use Rattle.ensemble.specs.Whole.{state, passed}
 use Rattle.ensemble.proofs.Lifts.{acts-put}
 use Rattle.ensemble.proofs.ensembles.Ensemble.abort.Needs as need
 

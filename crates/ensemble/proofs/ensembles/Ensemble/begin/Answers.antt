@@ -1,16 +1,13 @@
-use borrow.Author.Needs.{needs}
 use native.Mathlib.Omega.{arith}
 use mathlib.Core.Path.{_≡_, refl, sym, ap, _∙_, subst}
-use mathlib.Core.Bool.{cond}
-use Prim.Native.Nat.{ℕ, _-_, _<_}
-use lib.ListN.{length, getD}
+use Prim.Native.Nat.{_-_, _<_}
+use lib.ListN.{length}
 use Rattle.std.specs.declared.option.Option.the-variants.{Some, None}
 use Rattle.std.proofs.shelf.Results.{err-from-errBy}
 use Rattle.std.proofs.shelf.Tests.{cond-true}
 use Rattle.pronto.specs.Servers.{Site, begun}
 use Rattle.pronto.specs.Refusing.{first, begin-table, begin-why}
 use Rattle.pronto.specs.Acts.{Nothing-told}
-use Rattle.ensemble.specs.Whole.{state, passed}
 use Rattle.ensemble.proofs.Lifts.{acts-put, site-got, nobody-there}
 use Rattle.ensemble.proofs.ensembles.Ensemble.begin.Needs as need
 

@@ -1,10 +1,9 @@
-use native.Mathlib.Omega.{arith}
 use mathlib.Core.Path.{_≡_, refl, sym, ap, _∙_, subst}
-use Prim.Native.Nat.{ℕ, _+_, _-_, _%_, _^_}
-use lib.ListN.{length, getD}
-use Rattle.std.specs.declared.option.Option.the-variants.{Some, None}
+use Prim.Native.Nat.{_+_, _-_, _%_, _^_}
+use lib.ListN.{length}
+use Rattle.std.specs.declared.option.Option.the-variants.{Some}
 use Rattle.std.proofs.shelf.Results.{err-from-errBy}
-use Rattle.message.specs.Messages.{Msg, epoch-change, transaction, tx-of}
+use Rattle.message.specs.Messages.{Msg, transaction, tx-of}
 use Rattle.message.specs.declared.messages.Transaction.{Transaction}
 use Rattle.broadcast.specs.Bags.{Inserted}
 use Rattle.pronto.specs.Servers.{Site}

@@ -1,11 +1,8 @@
-use borrow.Author.Needs.{needs}
-use native.Mathlib.Omega.{arith}
-use mathlib.Core.Path.{_≡_, refl, sym, ap, _∙_, subst}
+use mathlib.Core.Path.{_≡_}
 use Prim.Native.Nat.{ℕ, _-_}
-use lib.ListN.{length, getD}
+use lib.ListN.{length}
 use Rattle.journal.specs.declared.verdicts.Judgement.{Judgement}
 use Rattle.pronto.specs.Delivering.{deliver-why, deliver-after, Tells}
-use Rattle.ensemble.specs.Whole.{state, passed}
 use Rattle.ensemble.proofs.Lifts.{acts-put}
 use Rattle.ensemble.proofs.ensembles.Ensemble.deliver.Needs as need
 

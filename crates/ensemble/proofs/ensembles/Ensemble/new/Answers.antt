@@ -1,6 +1,6 @@
 use native.Mathlib.Omega.{arith}
-use mathlib.Core.Path.{_≡_, refl, sym, ap, _∙_, subst}
-use Prim.Native.Nat.{ℕ, _-_, _≤_, min}
+use mathlib.Core.Path.{ap, _∙_}
+use Prim.Native.Nat.{_-_, _≤_}
 use Rattle.ensemble.specs.Whole.{whole}
 use Rattle.ensemble.proofs.Told.{new-whole}
 use Rattle.ensemble.proofs.ensembles.Ensemble.new.Needs as need

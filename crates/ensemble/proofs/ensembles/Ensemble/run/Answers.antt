@@ -1,10 +1,7 @@
-use borrow.Author.Needs.{needs}
-use native.Mathlib.Omega.{arith}
-use mathlib.Core.Path.{_≡_, refl, sym, ap, _∙_, subst}
+use mathlib.Core.Path.{_≡_}
 use Prim.Native.Nat.{ℕ, _-_}
-use lib.ListN.{length, getD}
+use lib.ListN.{length}
 use Rattle.pronto.specs.Refusing.{run-why, run-result, run-after}
-use Rattle.ensemble.specs.Whole.{state, passed}
 use Rattle.ensemble.proofs.Lifts.{acts-put}
 use Rattle.ensemble.proofs.ensembles.Ensemble.run.Needs as need
 

@@ -1,13 +1,10 @@
-use borrow.Author.Needs.{needs}
-use native.Mathlib.Omega.{arith}
-use mathlib.Core.Path.{_≡_, refl, sym, ap, _∙_, subst}
+use mathlib.Core.Path.{_≡_, subst}
 use Prim.Native.Nat.{ℕ, _-_}
-use lib.ListN.{length, getD}
+use lib.ListN.{length}
 use Rattle.pronto.specs.Servers.{started}
 use Rattle.pronto.specs.Refusing.{first, start-table}
 use Rattle.pronto.specs.Acts.{Nothing-told}
 use Rattle.server.specs.Acting.{Starts}
-use Rattle.ensemble.specs.Whole.{state, passed}
 use Rattle.ensemble.proofs.Lifts.{acts-put}
 use Rattle.ensemble.proofs.ensembles.Ensemble.start.Needs as need
 

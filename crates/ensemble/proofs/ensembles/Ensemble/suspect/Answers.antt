@@ -1,19 +1,16 @@
-use native.Mathlib.Omega.{arith}
 use mathlib.Core.Path.{_≡_, refl, sym, ap, _∙_, subst}
-use Prim.Native.Nat.{ℕ, _+_, _-_, _%_, _^_}
-use lib.ListN.{length, getD}
-use Rattle.std.specs.declared.option.Option.the-variants.{Some, None}
+use Prim.Native.Nat.{_+_, _-_, _%_, _^_}
+use lib.ListN.{length}
+use Rattle.std.specs.declared.option.Option.the-variants.{Some}
 use Rattle.std.proofs.shelf.Results.{err-from-errBy}
-use Rattle.message.specs.Messages.{Msg, epoch-change, transaction, tx-of}
+use Rattle.message.specs.Messages.{Msg, epoch-change}
 use Rattle.message.specs.declared.messages.EpochChange.{EpochChange}
 use Rattle.broadcast.specs.Bags.{Inserted}
 use Rattle.pronto.specs.Servers.{Site}
 use Rattle.pronto.specs.Refusing.{first, running-table}
-use Rattle.pronto.specs.States.{with-messages, with-servers}
-use Rattle.replica.specs.Meanings.{upd}
 use Rattle.server.specs.Shown.{shown}
-use Rattle.ensemble.specs.Whole.{state, site-at, whole}
-use Rattle.ensemble.proofs.Lifts.{site-got, state-after, upd-self}
+use Rattle.ensemble.specs.Whole.{state}
+use Rattle.ensemble.proofs.Lifts.{site-got}
 use Rattle.ensemble.proofs.Sent.{looked-refused, looked-found, sends-refused, sends-full, sends-free, offered, not-offered}
 use Rattle.ensemble.proofs.ensembles.Ensemble.suspect.Needs as need
 

@@ -1,11 +1,11 @@
-use mathlib.Core.Path.{_≡_, refl, sym, ap, _∙_}
+use mathlib.Core.Path.{_≡_, sym, ap, _∙_}
 use mathlib.Core.Bool.{true, false}
 use native.Mathlib.Omega.{arith}
-use Prim.Native.Nat.{ℕ, _+_}
-use Rattle.std.specs.declared.option.Option.the-variants.{Some, None}
+use Prim.Native.Nat.{_+_}
+use Rattle.std.specs.declared.option.Option.the-variants.{Some}
 use Rattle.std.proofs.shelf.Tests.{eq-eqb, ne-eqb}
 use Rattle.message.specs.Messages.{msg-of, tx-of, transaction}
-use Rattle.journal.specs.Judging.{Summary, next}
+use Rattle.journal.specs.Judging.{next}
 use Rattle.journal.proofs.Summaries.{epoch-moves, transaction-epoch, transaction-late, transaction-other, transaction-again, transaction-first}
 use Rattle.journal.proofs.judging.Standing.past.Needs as need
 
