@@ -60,7 +60,7 @@ all-played acts i before after s t all so =
 -- from a new ensemble
 module _ (capacity n databases : ℕ) (units : ℕ → ℕ → ℕ) (spare : ℕ → Meaning) (enough : n ≤ databases) (small : capacity ≤ 4096) where
   pub new-played : (acts : List Act) (before after : History) (made s : State) → made ≡ new-state capacity n databases units spare → Played acts before after made s →
-    Played-new (new-state capacity n databases units spare) acts before after s
+      Played-new (new-state capacity n databases units spare) acts before after s
   new-played acts before after made s is played =
       let new = new-state capacity n databases units spare in
       let run : Leads-to new (played .added) s = subst (λ x. Leads-to x (played .added) s) is (played .leads) in
@@ -71,5 +71,6 @@ module _ (capacity n databases : ℕ) (units : ℕ → ℕ → ℕ) (spare : ℕ
         leads = run;
         law = law capacity n databases units spare enough small [] (played .added) new s refl run .second;
         moments = λ h h′ e.
-          let cut = leads-cut new h h′ s (subst (λ l. Leads-to new l s) e run) in
-          (cut .0, cut .1, law capacity n databases units spare enough small h h′ (cut .0) s (cut .1) (cut .2)) }
+            let cut = leads-cut new h h′ s (subst (λ l. Leads-to new l s) e run) in
+            (cut .0, cut .1, law capacity n databases units spare enough small h h′ (cut .0) s (cut .1) (cut .2));
+      }

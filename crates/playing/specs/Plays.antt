@@ -59,8 +59,8 @@ module _ {B K : Type 0} (b : cast.Ghosts B) (k : replicas.Ghosts K) (d : databas
   -- ensemble is possible.
   abbrev pub NewPlayed : Result (Ensemble B K) (Unplayed B K) → Type 0
   NewPlayed (Ok e) =
-    (used + length acts ≤ room)
-    × Possible n (k .size)
-    × Played-new (new-state (b .capacity broadcast) n (k .size) (λ i. d .units (i - 1)) (λ q. k .meanings bank (n + q))) acts before after (state b k d e)
+      (used + length acts ≤ room)
+      × Possible n (k .size)
+      × Played-new (new-state (b .capacity broadcast) n (k .size) (λ i. d .units (i - 1)) (λ q. k .meanings bank (n + q))) acts before after (state b k d e)
   NewPlayed (Err (unplayed.Room u)) = (room < used + length acts) × Unused u
   NewPlayed (Err (unplayed.Servers u)) = (used + length acts ≤ room) × (Possible n (k .size) → ⊥) × Unused u
