@@ -1,4 +1,6 @@
 //! An ordered broadcast of messages, of any make (docs/broadcast.md).
+#![tactic(auto)]
+
 pub mod broadcasts;
 pub mod faults;
 

@@ -1,4 +1,6 @@
 //! A busy afternoon: two servers lead at once, a busy one stops while its commit waits, restarts and replays (docs/acts.md).
+#![tactic(auto)]
+
 use anyhow::anyhow;
 use bank::{DatabaseBank, ReplicaBank};
 use broadcast::Broadcast;

@@ -1,4 +1,6 @@
 //! The step lines of a run file, as commands whose names are still views into the file (docs/run-file.md).
+#![tactic(auto)]
+
 pub mod openings;
 pub mod parsing;
 pub mod shapes;

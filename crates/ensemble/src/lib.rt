@@ -1,4 +1,6 @@
 //! An ensemble of servers over any databases and any ordered broadcast (docs/acts.md).
+#![tactic(auto)]
+
 pub mod ensembles;
 mod places;
 

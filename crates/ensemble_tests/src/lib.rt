@@ -1,3 +1,5 @@
 //! Ensembles over mixed banks, on examples (docs/acts.md).
+#![tactic(auto)]
+
 #[cfg(test)]
 mod tests;

@@ -1,4 +1,6 @@
 //! An office's post goes through two databases of different makes, step by step (docs/databases.md).
+#![tactic(auto)]
+
 use deferred::Deferred;
 use in_place::InPlace;
 use replica::{Database, Fault, Replica};

@@ -1,4 +1,6 @@
 //! A database that writes in place and keeps former values for undo.
+#![tactic(auto)]
+
 mod cellwise;
 mod former;
 mod locking;

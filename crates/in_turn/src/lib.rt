@@ -1,4 +1,6 @@
 //! An ordered broadcast that takes its senders' lines in turn.
+#![tactic(auto)]
+
 pub mod lines;
 
 pub use lines::InTurn;

@@ -1,4 +1,6 @@
 //! Judging the ordered log (docs/judging.md).
+#![tactic(auto)]
+
 pub mod judging;
 pub mod theorems;
 pub mod verdicts;

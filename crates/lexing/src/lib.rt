@@ -1,4 +1,6 @@
 //! Lines, words, numbers and names of a run file (docs/run-file.md). Every part that is found stays a view into the file.
+#![tactic(auto)]
+
 pub mod cutting;
 pub mod names;
 pub mod numbers;

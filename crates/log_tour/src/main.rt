@@ -1,4 +1,6 @@
 //! A log being made: messages of several servers go through both broadcasts, are ordered, and are judged (docs/judging.md).
+#![tactic(auto)]
+
 use anyhow::anyhow;
 use broadcast::{Broadcast, Full, NotOrdered};
 use in_turn::InTurn;

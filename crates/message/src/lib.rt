@@ -1,4 +1,6 @@
 //! The messages that an ordered broadcast carries (docs/broadcast.md).
+#![tactic(auto)]
+
 pub mod messages;
 pub mod notes;
 pub mod wording;

@@ -1,4 +1,6 @@
 //! Databases of any makes, held by value as nested pairs: `Pair { first, rest: Pair { .., rest: Nothing } }`.
+#![tactic(auto)]
+
 ghost use Rattle.std.specs.Prelude.{◌+◌};
 ghost use Rattle.replica.specs.Calls.{cleared};
 ghost use Rattle.bank.specs.Places.{ahead};

@@ -1,4 +1,6 @@
 //! Playing lists of acts on an ensemble. The law of docs/law.md stands on these calls.
+#![tactic(auto)]
+
 pub mod performing;
 pub mod plays;
 

@@ -1,4 +1,6 @@
 //! The acts on an ensemble, their refusals, and the law that any list of them keeps (docs/acts.md, docs/refusals.md, docs/law.md).
+#![tactic(auto)]
+
 pub mod acts;
 pub mod faults;
 pub mod law;

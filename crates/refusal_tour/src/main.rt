@@ -1,4 +1,6 @@
 //! Each refusal of an ensemble at its edge, and ties: where several fit, the one nearest the top answers (docs/refusals.md).
+#![tactic(auto)]
+
 use anyhow::anyhow;
 use bank::{DatabaseBank, ReplicaBank};
 use broadcast::Broadcast;

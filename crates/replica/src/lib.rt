@@ -1,4 +1,6 @@
 //! What a replica and a database mean, whatever their make (docs/databases.md).
+#![tactic(auto)]
+
 pub mod databases;
 pub mod faults;
 pub mod replaying;

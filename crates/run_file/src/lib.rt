@@ -1,4 +1,6 @@
 //! Run files: who the clients are, then the steps (docs/run-file.md).
+#![tactic(auto)]
+
 pub mod faults;
 pub mod files;
 pub mod meaning;

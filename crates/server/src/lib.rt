@@ -1,4 +1,6 @@
 //! One server with its database: what each act does there (docs/acts.md).
+#![tactic(auto)]
+
 pub mod begins;
 pub mod counts;
 pub mod delivers;

@@ -1,4 +1,6 @@
 //! A statement on one cell, and what it does to the cell's value (docs/statements.md).
+#![tactic(auto)]
+
 pub mod applying;
 pub mod checked;
 pub mod operation;

@@ -1,4 +1,6 @@
 //! Taking the steps of a run file on an ensemble, and writing what each answers (docs/run-file.md).
+#![tactic(auto)]
+
 mod answers;
 pub mod lines;
 mod putting;
