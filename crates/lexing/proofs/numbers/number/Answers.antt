@@ -28,7 +28,7 @@ overflow-add-n c = omega (arith, room _ _ _ c.if-word-gt-DIGITS.false c.loop-b-t
 
 pub loop-b-preserved : goal.loop-b-preserved
 loop-b-preserved c =
-    let d = c.if-not-is-ascii-digit.ensures in
+    let d = c.if-not-is_ascii_digit.ensures in
     let v = digits_value_more 10 _ _ c.loop-b-test.true in
     let k = digit_value_digit _ d.cases in
     (digits_more 10 _ _ c.loop-b-test.true c.loop-b.invariant.0 d.bound, omega (arith, c.loop-b.invariant.1))
