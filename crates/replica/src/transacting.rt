@@ -13,7 +13,7 @@ fn finish<D: Database>(
     statements: &[Statement],
     position: u64,
 ) -> Result<(), Fault>
-    ensures { Finishes unit result slot statements.now position (D.Replica.meaning database.old) (D.Replica.meaning database.new) }
+    ensures { Finishes D.unit result slot statements.now position (D.Replica.meaning database.old) (D.Replica.meaning database.new) }
 {
     for statement in statements {
         database.run(slot, statement)?;
@@ -30,7 +30,7 @@ pub fn transact<D: Database>(
     statements: &[Statement],
     position: u64,
 ) -> Result<(), Fault>
-    ensures { Transacts unit result slot statements.now position (D.Replica.meaning database.old) (D.Replica.meaning database.new) }
+    ensures { Transacts D.unit result slot statements.now position (D.Replica.meaning database.old) (D.Replica.meaning database.new) }
 {
     database.open(slot)?;
     match finish(database, slot, statements, position) {

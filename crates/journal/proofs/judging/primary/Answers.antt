@@ -4,4 +4,4 @@ use Rattle.journal.proofs.judging.primary.Goals as goal
 
 pub returns : goal.returns
 unfolding primary
-returns c = (omega arith, ap (λ k. k % c.args.servers + 1) c.saturating-sub.ensures)
+returns c = (omega arith, ap (λ k. k % c.args.servers + 1) c.saturating_sub.ensures)

@@ -13,18 +13,18 @@ returns-then-word-eq0 c n w = let s = shape n _ w in omega arith
 pub returns-then-word-gt1 : goal.returns-then-word-gt1
 returns-then-word-gt1 c n w = let s = shape n _ w in omega (arith, s.plain c.if-word-eq48.true)
 
-pub returns-then-not-is-ascii-digit : goal.returns-then-not-is-ascii-digit
-returns-then-not-is-ascii-digit c n w =
+pub returns-then-not-is_ascii_digit : goal.returns-then-not-is_ascii_digit
+returns-then-not-is_ascii_digit c n w =
     let s = shape n _ w in
     let h = digit_at _ c.loop-b.b-index s.digits c.loop-b-test.true in
-    let k = c.if-not-is-ascii-digit.ensures.cases in
+    let k = c.if-not-is_ascii_digit.ensures.cases in
     omega arith
 
-pub overflow-mul-n : goal.overflow-mul-n
-overflow-mul-n c = omega (arith, room _ _ _ c.if-word-gt-DIGITS.false c.loop-b-test.true c.loop-b.invariant.0 c.loop-b.invariant.1)
+pub overflow_mul-n : goal.overflow_mul-n
+overflow_mul-n c = omega (arith, room _ _ _ c.if-word-gt-DIGITS.false c.loop-b-test.true c.loop-b.invariant.0 c.loop-b.invariant.1)
 
-pub overflow-add-n : goal.overflow-add-n
-overflow-add-n c = omega (arith, room _ _ _ c.if-word-gt-DIGITS.false c.loop-b-test.true c.loop-b.invariant.0 c.loop-b.invariant.1)
+pub overflow_add-n : goal.overflow_add-n
+overflow_add-n c = omega (arith, room _ _ _ c.if-word-gt-DIGITS.false c.loop-b-test.true c.loop-b.invariant.0 c.loop-b.invariant.1)
 
 pub loop-b-preserved : goal.loop-b-preserved
 loop-b-preserved c =

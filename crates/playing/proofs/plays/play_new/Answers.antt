@@ -11,6 +11,6 @@ returns-in-Ok g c =
       search rules,
       made.0,
       new_played (g.B.Broadcast.capacity a.broadcast) a.servers g.K.ReplicaBank.size (λ i. g.K.DatabaseBank.units (i - 1)) (λ q. g.K.ReplicaBank.meanings a.bank (a.servers + q))
-          made.0.2 (g.met.B.Broadcast.roomy a.broadcast).2 a.acts.now a.history.now.items c.perform-all.new.history.items (S c.in-Ok.ensemble) (S c.perform-all.new.ensemble) made.1
-          c.perform-all.ensures,
+          made.0.2 (g.met.B.Broadcast.roomy a.broadcast).2 a.acts.now a.history.now.items c.perform_all.new.history.items (S c.in-Ok.ensemble) (S c.perform_all.new.ensemble) made.1
+          c.perform_all.ensures,
     )

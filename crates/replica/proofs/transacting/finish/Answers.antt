@@ -7,17 +7,17 @@ use Rattle.replica.proofs.transacting.finish.Goals as goal
 
 pub loop-statement-preserved : goal.loop-statement-preserved
 loop-statement-preserved g c =
-    let told = c.in-ok-run.ensures in
+    let told = c.in_ok-run.ensures in
     let more = one_more g.D.Database.unit (g.D.Replica.meaning c.loop-statement.database) c.args.slot (g.D.Replica.meaning c.run.new.self)
     c.args.statements.now c.loop-statement.statement-index c.args.position c.statement-item.result c.loop-statement-test.true c.statement-item.is told.0 told.2 in
     (more.0 ∙ c.loop-statement.invariant.0, more.1 ∙ c.loop-statement.invariant.1, more.2 ∙ c.loop-statement.invariant.2, more.3 ∙ c.loop-statement.invariant.3)
 
-pub returns-in-err-run : goal.returns-in-err-run
-returns-in-err-run g c =
-    let told = c.in-err-run.ensures in
+pub returns-in_err-run : goal.returns-in_err-run
+returns-in_err-run g c =
+    let told = c.in_err-run.ensures in
     let refused = one_refused g.D.Database.unit (g.D.Replica.meaning c.loop-statement.database) c.args.slot
-    c.args.statements.now c.loop-statement.statement-index c.args.position c.statement-item.result c.in-err-run.field-0.0 c.loop-statement-test.true c.statement-item.is told.0 in
-    let p = err_from_is_err_and c.from-residual.result c.from-residual.ensures.1 in
+    c.args.statements.now c.loop-statement.statement-index c.args.position c.statement-item.result c.in_err-run.field-0.0 c.loop-statement-test.true c.statement-item.is told.0 in
+    let p = err_from_is_err_and c.from_residual.result c.from_residual.ensures.1 in
     rw (p.1, p.2) (
       sym c.loop-statement.invariant.1 ∙ refused,
       ap (λ m. undone m c.args.slot) told.1 ∙ c.loop-statement.invariant.2,

@@ -3,5 +3,5 @@ use Rattle.std.proofs.lemmas.List.{length-map}
 use Rattle.run_file.specs.Texts.{text_of}
 use Rattle.run_file.proofs.meaning.id_of.Goals as goal
 
-pub overflow-cast-result : goal.overflow-cast-result
-overflow-cast-result c = let h = c.in-Some.ensures.0 in omega (arith, length-map c.args.names.now text_of, c.requires)
+pub overflow_cast-result : goal.overflow_cast-result
+overflow_cast-result c = let h = c.in-Some.ensures.0 in omega (arith, length-map c.args.names.now text_of, c.requires)

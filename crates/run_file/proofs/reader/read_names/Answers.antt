@@ -14,8 +14,8 @@ loop-i-init c =
     let none : texts (vec_items c.args.names.now) ≡ [] = ap texts c.requires.0 in
     (ap length c.requires.0, subst AllNames (sym none) no_names, ap (λ (ls : List (List ℕ)). ended ls c.args.text.now) (sym none), c.requires.1.1)
 
-pub returns-in-default : goal.returns-in-default
-returns-in-default c =
+pub returns-in_default : goal.returns-in_default
+returns-in_default c =
     let inv = c.loop-i.invariant in
     let ns = vec_items c.loop-i.names in
     record {
@@ -25,22 +25,22 @@ returns-in-default c =
         names = inv.1;
         split = inv.2;
         few = omega (arith, length-map ns text_of, inv.0);
-        stuck = no_line _ _ c.in-default.ensures.text;
+        stuck = no_line _ _ c.in_default.ensures.text;
         why = refl;
         line = omega (arith, length-map ns text_of, inv.0);
       };
     }
 
 -- what is not fresh among the slice is not fresh among the names
-stale : (c : goal.Then-not-is-fresh) → forms.Name c.in-Some.name.now × Apart (texts (vec_items c.loop-i.names)) c.in-Some.name.now → ⊥
+stale : (c : goal.Then-not-is_fresh) → forms.Name c.in-Some.name.now × Apart (texts (vec_items c.loop-i.names)) c.in-Some.name.now → ⊥
 stale c good =
     let P : List (MutBor (List ℕ)) → Type 0 = λ ns. forms.Name c.in-Some.name.now × Apart (texts ns) c.in-Some.name.now in
-    let t = c.is-fresh.ensures.1 (subst P (sym c.as-slice.ensures.value) good) in
-    let z : ◌≡◌ {A = ℕ} 0 1 = cc (t, c.if-not-is-fresh.true) in
+    let t = c.is_fresh.ensures.1 (subst P (sym c.as_slice.ensures.value) good) in
+    let z : ◌≡◌ {A = ℕ} 0 1 = cc (t, c.if-not-is_fresh.true) in
     omega arith
 
-pub returns-then-not-is-fresh : goal.returns-then-not-is-fresh
-returns-then-not-is-fresh c =
+pub returns-then-not-is_fresh : goal.returns-then-not-is_fresh
+returns-then-not-is_fresh c =
     let inv = c.loop-i.invariant in
     let ns = vec_items c.loop-i.names in
     let cuts = c.in-Some.ensures.text in
@@ -63,14 +63,14 @@ loop-i-preserved c =
     let ns = vec_items c.loop-i.names in
     let cuts = c.in-Some.ensures.text in
     let l = c.in-Some.name.now in
-    let items = c.push-reserved.ensures.items in
-    let grown : texts (vec_items c.push-reserved.new.self) ≡ texts ns ++ l ∷ [] = ap texts items ∙ map_more text_of ns c.in-Some.name in
+    let items = c.push_reserved.ensures.items in
+    let grown : texts (vec_items c.push_reserved.new.self) ≡ texts ns ++ l ∷ [] = ap texts items ∙ map_more text_of ns c.in-Some.name in
     let P : List (MutBor (List ℕ)) → Type 0 = λ ns. forms.Name l × Apart (texts ns) l in
-    let fresh : P ns = subst P c.as-slice.ensures.value (c.is-fresh.ensures.0 c.if-not-is-fresh.false) in (
+    let fresh : P ns = subst P c.as_slice.ensures.value (c.is_fresh.ensures.0 c.if-not-is_fresh.false) in (
       omega (arith, ap length items, length-append ns (c.in-Some.name ∷ []), inv.0),
       subst AllNames (sym grown) (names_more (texts ns) l inv.1 fresh.0 fresh.1),
       ended_more (texts ns) _ _ inv.2 cuts.1 ∙ ap (λ (ls : List (List ℕ)). ended ls c.in-Some.after.now) (sym grown),
-      omega (arith, c.push-reserved.ensures.capacity, inv.3),
+      omega (arith, c.push_reserved.ensures.capacity, inv.3),
     )
 
 pub returns : goal.returns

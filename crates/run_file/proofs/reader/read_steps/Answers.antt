@@ -11,25 +11,25 @@ pub loop-i-init : goal.loop-i-init
 loop-i-init c =
     (ap length c.requires.0, subst (AllSay (texts c.args.names.now)) (sym c.requires.0) tt, ap (λ (ls : List Line). ended (map own ls) c.args.text.now) (sym c.requires.0), c.requires.1.1.0)
 
-pub returns-in-default : goal.returns-in-default
-returns-in-default c =
+pub returns-in_default : goal.returns-in_default
+returns-in_default c =
     let inv = c.loop-i.invariant in
     let ls = vec_items c.loop-i.lines in
     let long : length (map own ls) ≡ c.loop-i.i = length-map ls own ∙ inv.0 in
-    let none = no_command_free _ c.in-default.ensures.text in
+    let none = no_command_free _ c.in_default.ensures.text in
     record { read = stopped _ _ _ _ ls _ _ inv.1 inv.2 (omega (arith, long)) (λ _. no_step _ _ none) (omega (arith, long), none) (omega (arith, long)) }
 
-pub returns-in-default-parse : goal.returns-in-default-parse
-returns-in-default-parse c =
+pub returns-in_default-parse : goal.returns-in_default-parse
+returns-in_default-parse c =
     let inv = c.loop-i.invariant in
     let ls = vec_items c.loop-i.lines in
     let long : length (map own ls) ≡ c.loop-i.i = length-map ls own ∙ inv.0 in
     let cuts = c.in-Some.ensures.text in
-    let none = no_command_line _ _ cuts.0 cuts.1 c.in-default-parse.ensures in
+    let none = no_command_line _ _ cuts.0 cuts.1 c.in_default-parse.ensures in
     record { read = stopped _ _ _ _ ls _ _ inv.1 inv.2 (omega (arith, long)) (λ _. no_step _ _ none) (omega (arith, long), none) (omega (arith, long)) }
 
-pub returns-in-default-step-of : goal.returns-in-default-step-of
-returns-in-default-step-of c =
+pub returns-in_default-step_of : goal.returns-in_default-step_of
+returns-in_default-step_of c =
     let inv = c.loop-i.invariant in
     let ls = vec_items c.loop-i.lines in
     let long : length (map own ls) ≡ c.loop-i.i = length-map ls own ∙ inv.0 in
@@ -38,7 +38,7 @@ returns-in-default-step-of c =
     let d = c.in-Some-parse.command in
     record {
       read = stopped _ _ _ _ ls _ _ inv.1 inv.2 (omega (arith, long))
-          (λ _. unlisted_line _ _ _ d cuts.0 cuts.1 said.0 said.1 c.in-default-step-of.ensures)
+          (λ _. unlisted_line _ _ _ d cuts.0 cuts.1 said.0 said.1 c.in_default-step_of.ensures)
           (omega (arith, long), record { command = d; after = c.in-Some.after.now; proper = said.0; is = cuts.1 ∙ ap (λ (l : List ℕ). l ++ (10 ∷ c.in-Some.after.now)) said.1 })
           (omega (arith, long));
     }
@@ -50,14 +50,14 @@ loop-i-preserved c =
     let ns = texts c.args.names.now in
     let cuts = c.in-Some.ensures.text in
     let said = c.in-Some-parse.ensures in
-    let meant = c.in-Some-step-of.ensures in
-    let l : Line = record { text = c.in-Some.line; step = c.in-Some-step-of.step } in
-    let items : vec_items c.push-reserved.new.self ≡ ls ++ l ∷ [] = c.push-reserved.ensures.items in
+    let meant = c.in-Some-step_of.ensures in
+    let l : Line = record { text = c.in-Some.line; step = c.in-Some-step_of.step } in
+    let items : vec_items c.push_reserved.new.self ≡ ls ++ l ∷ [] = c.push_reserved.ensures.items in
     let says : Says ns (own l) l.step = record { command = c.in-Some-parse.command; client = meant.0; proper = said.0; listed = meant.1; is = said.1; step = meant.2 } in (
       omega (arith, ap length items, length-append ls (l ∷ []), inv.0),
       subst (AllSay ns) (sym items) (say_more ns ls l inv.1 says),
       ended_more (map own ls) _ _ inv.2 cuts.1 ∙ ap (λ (ks : List (List ℕ)). ended ks c.in-Some.after.now) (sym (ap (map own) items ∙ map_more own ls l)),
-      omega (arith, c.push-reserved.ensures.capacity, inv.3),
+      omega (arith, c.push_reserved.ensures.capacity, inv.3),
     )
 
 pub returns-then-rest-gt0 : goal.returns-then-rest-gt0

@@ -12,15 +12,15 @@ use Rattle.server.proofs.Settling.{refused, obeyed}
 use Rattle.server.proofs.Reasons.{begin_refused, begin_asked}
 use Rattle.server.proofs.begins.begin.Goals as goal
 
-pub returns-in-err-slot : goal.returns-in-err-slot
-returns-in-err-slot g c =
+pub returns-in_err-slot : goal.returns-in_err-slot
+returns-in_err-slot g c =
     let a = c.args in
     let n = a.count.count in
     let size = g.K.ReplicaBank.size in
     let ms = g.K.ReplicaBank.meanings a.bank.now in
-    let look = c.in-err-slot.ensures.looks (ms a.place) in
-    let e = c.in-err-slot.field-0.0 in
-    let p = err_from_is_err_and c.from-residual.result c.from-residual.ensures.1 in
+    let look = c.in_err-slot.ensures.looks (ms a.place) in
+    let e = c.in_err-slot.field-0.0 in
+    let p = err_from_is_err_and c.from_residual.result c.from_residual.ensures.1 in
     rw (p.1, p.2) (record {
       slot = 0;
       free = λ h. let z : ◌≡◌ {A = ℕ} 0 1 = cc (look, h) in absurd (omega arith);
@@ -29,22 +29,22 @@ returns-in-err-slot g c =
           (begin_refused size a.place n a.number a.client a.job (shown a.server.now (ms a.place)) 0 e look) refl;
     })
 
-pub returns-in-err-open : goal.returns-in-err-open
-returns-in-err-open g c =
+pub returns-in_err-open : goal.returns-in_err-open
+returns-in_err-open g c =
     let a = c.args in
     let n = a.count.count in
     let size = g.K.ReplicaBank.size in
     let ms = g.K.ReplicaBank.meanings a.bank.now in
-    let slot = c.in-ok-slot.slot in
-    let look = c.in-ok-slot.ensures.looks (ms a.place) in
-    let told = c.in-err-open.ensures in
-    let p = err_from_is_err_and c.from-residual-in-err-open.result c.from-residual-in-err-open.ensures.1 in
+    let slot = c.in_ok-slot.slot in
+    let look = c.in_ok-slot.ensures.looks (ms a.place) in
+    let told = c.in_err-open.ensures in
+    let p = err_from_is_err_and c.from_residual-in_err-open.result c.from_residual-in_err-open.ensures.1 in
     rw (p.1, p.2) (record {
       slot = slot;
       free = λ h. look.1;
       settled =
           refused (λ s. begin_why size a.place n a.number s a.client a.job slot) NothingTold (λ s. begun s slot a.client a.job) a.place a.server.now ms
-          (passed_up c.in-err-open.field-0.0) (g.K.ReplicaBank.meanings c.open.new.self)
+          (passed_up c.in_err-open.field-0.0) (g.K.ReplicaBank.meanings c.open.new.self)
           (begin_asked size a.place n a.number a.client a.job (shown a.server.now (ms a.place)) slot look.0 ∙ ap up told.0) told.1;
     })
 
@@ -54,9 +54,9 @@ returns g c =
     let n = a.count.count in
     let size = g.K.ReplicaBank.size in
     let ms = g.K.ReplicaBank.meanings a.bank.now in
-    let slot = c.in-ok-slot.slot in
-    let look = c.in-ok-slot.ensures.looks (ms a.place) in
-    let told = c.in-ok-open.ensures in
+    let slot = c.in_ok-slot.slot in
+    let look = c.in_ok-slot.ensures.looks (ms a.place) in
+    let told = c.in_ok-open.ensures in
     let m = opened (ms a.place) slot in
     let notes = c.new.result in
     let W : List Statement → List ℕ → Site = λ xs ys. with_row (shown a.server.now m) slot (Some (record { client = a.client; job = a.job; stmts = xs; results = ys; committing = false })) in

@@ -11,24 +11,24 @@ use Rattle.server.proofs.Settling.{refused, obeyed}
 use Rattle.server.proofs.Reasons.{abort_refused, abort_asked, abort_leaves}
 use Rattle.server.proofs.runs.abort.Goals as goal
 
-pub returns-in-err-transaction : goal.returns-in-err-transaction
-returns-in-err-transaction g c =
+pub returns-in_err-transaction : goal.returns-in_err-transaction
+returns-in_err-transaction g c =
     let a = c.args in
     let ms = g.K.ReplicaBank.meanings a.bank.now in
-    let e = c.in-err-transaction.field-0.0 in
-    let p = err_from_is_err_and c.from-residual.result c.from-residual.ensures.1 in
+    let e = c.in_err-transaction.field-0.0 in
+    let p = err_from_is_err_and c.from_residual.result c.from_residual.ensures.1 in
     rw (p.1, p.2) (refused (λ s. abort_why s a.client a.job) NothingTold (λ s. abort_after s a.client a.job) a.place a.server.now ms e ms
-    (abort_refused a.client a.job (shown a.server.now (ms a.place)) e (c.in-err-transaction.ensures.looks (ms a.place))) refl)
+    (abort_refused a.client a.job (shown a.server.now (ms a.place)) e (c.in_err-transaction.ensures.looks (ms a.place))) refl)
 
-pub returns-in-err-undo : goal.returns-in-err-undo
-returns-in-err-undo g c =
+pub returns-in_err-undo : goal.returns-in_err-undo
+returns-in_err-undo g c =
     let a = c.args in
     let ms = g.K.ReplicaBank.meanings a.bank.now in
-    let t = c.in-ok-transaction.transaction in
-    let look = c.in-ok-transaction.ensures.looks (ms a.place) in
-    let told = c.in-err-undo.ensures in
-    let p = err_from_is_err_and c.from-residual-in-err-undo.result c.from-residual-in-err-undo.ensures.1 in
-    rw (p.1, p.2) (refused (λ s. abort_why s a.client a.job) NothingTold (λ s. abort_after s a.client a.job) a.place a.server.now ms (passed_up c.in-err-undo.field-0.0)
+    let t = c.in_ok-transaction.transaction in
+    let look = c.in_ok-transaction.ensures.looks (ms a.place) in
+    let told = c.in_err-undo.ensures in
+    let p = err_from_is_err_and c.from_residual-in_err-undo.result c.from_residual-in_err-undo.ensures.1 in
+    rw (p.1, p.2) (refused (λ s. abort_why s a.client a.job) NothingTold (λ s. abort_after s a.client a.job) a.place a.server.now ms (passed_up c.in_err-undo.field-0.0)
     (g.K.ReplicaBank.meanings c.undo.new.self)
     (abort_asked a.client a.job (shown a.server.now (ms a.place)) t.slot (work_of t.row) look.1.0 look.0 ∙ ap up told.0) told.1)
 
@@ -37,9 +37,9 @@ returns g c =
     let a = c.args in
     let ms = g.K.ReplicaBank.meanings a.bank.now in
     let v = shown a.server.now (ms a.place) in
-    let t = c.in-ok-transaction.transaction in
-    let look = c.in-ok-transaction.ensures.looks (ms a.place) in
-    let told = c.in-ok-undo.ensures in
+    let t = c.in_ok-transaction.transaction in
+    let look = c.in_ok-transaction.ensures.looks (ms a.place) in
+    let told = c.in_ok-undo.ensures in
     let m = undone (ms a.place) t.slot in
     let is : t.outcome ≡ Ends = cc look.1.1 in
     obeyed (λ s. abort_why s a.client a.job) NothingTold (λ s. abort_after s a.client a.job) a.place a.server.now ms tt c.settle.new.self m

@@ -13,35 +13,35 @@ use Rattle.server.proofs.Settling.{refused, obeyed}
 use Rattle.server.proofs.Reasons.{run_refused, run_asked, run_gives, run_leaves}
 use Rattle.server.proofs.runs.run.Goals as goal
 
-pub returns-in-err-looked : goal.returns-in-err-looked
-returns-in-err-looked g c =
+pub returns-in_err-looked : goal.returns-in_err-looked
+returns-in_err-looked g c =
     let a = c.args in
     let unit = g.K.DatabaseBank.units a.place in
     let ms = g.K.ReplicaBank.meanings a.bank.now in
-    let e = c.in-err-looked.field-0.0 in
-    let p = err_from_is_err_and c.from-residual.result c.from-residual.ensures.1 in
+    let e = c.in_err-looked.field-0.0 in
+    let p = err_from_is_err_and c.from_residual.result c.from_residual.ensures.1 in
     rw (p.1, p.2) (refused (λ s. run_why unit s a.client a.job a.cell a.operation) (λ s x. x ≡ run_result s a.client a.job a.cell a.operation)
     (λ s. run_after unit s a.client a.job a.cell a.operation) a.place a.server.now ms e ms
-    (run_refused unit a.client a.job a.cell a.operation (shown a.server.now (ms a.place)) e (c.in-err-looked.ensures.looks (ms a.place))) refl)
+    (run_refused unit a.client a.job a.cell a.operation (shown a.server.now (ms a.place)) e (c.in_err-looked.ensures.looks (ms a.place))) refl)
 
-pub returns-in-err-result : goal.returns-in-err-result
-returns-in-err-result g c =
+pub returns-in_err-result : goal.returns-in_err-result
+returns-in_err-result g c =
     let a = c.args in
     let unit = g.K.DatabaseBank.units a.place in
     let ms = g.K.ReplicaBank.meanings a.bank.now in
-    let st = c.in-ok-looked.looked.0 in
-    let t = c.in-ok-looked.looked.1 in
-    let look = c.in-ok-looked.ensures.looks (ms a.place) in
-    let told = c.in-err-result.ensures in
-    let p = err_from_is_err_and c.from-residual-in-err-result.result c.from-residual-in-err-result.ensures.1 in
+    let st = c.in_ok-looked.looked.0 in
+    let t = c.in_ok-looked.looked.1 in
+    let look = c.in_ok-looked.ensures.looks (ms a.place) in
+    let told = c.in_err-result.ensures in
+    let p = err_from_is_err_and c.from_residual-in_err-result.result c.from_residual-in_err-result.ensures.1 in
     rw (p.1, p.2) (refused (λ s. run_why unit s a.client a.job a.cell a.operation) (λ s x. x ≡ run_result s a.client a.job a.cell a.operation)
-    (λ s. run_after unit s a.client a.job a.cell a.operation) a.place a.server.now ms (passed_up c.in-err-result.field-0.0) (g.K.ReplicaBank.meanings c.run.new.self)
+    (λ s. run_after unit s a.client a.job a.cell a.operation) a.place a.server.now ms (passed_up c.in_err-result.field-0.0) (g.K.ReplicaBank.meanings c.run.new.self)
     (run_asked unit a.client a.job a.cell a.operation (shown a.server.now (ms a.place)) st t.slot (work_of t.row) look.1.0 look.1.1.0 look.0 ∙ ap up told.0) told.1)
 
-pub returns-in-default : goal.returns-in-default
-returns-in-default g c =
-    let few = (c.in-ok-looked.ensures.looks (g.K.ReplicaBank.meanings c.args.bank.now c.args.place)).1.2 in
-    let long = c.in-default.ensures in
+pub returns-in_default : goal.returns-in_default
+returns-in_default g c =
+    let few = (c.in_ok-looked.ensures.looks (g.K.ReplicaBank.meanings c.args.bank.now c.args.place)).1.2 in
+    let long = c.in_default.ensures in
     absurd (omega arith)
 
 pub returns : goal.returns
@@ -50,12 +50,12 @@ returns g c =
     let unit = g.K.DatabaseBank.units a.place in
     let ms = g.K.ReplicaBank.meanings a.bank.now in
     let v = shown a.server.now (ms a.place) in
-    let st = c.in-ok-looked.looked.0 in
-    let t = c.in-ok-looked.looked.1 in
+    let st = c.in_ok-looked.looked.0 in
+    let t = c.in_ok-looked.looked.1 in
     let w = work_of t.row in
-    let look = c.in-ok-looked.ensures.looks (ms a.place) in
-    let told = c.in-ok-result.ensures in
-    let x = c.in-ok-result.result in
+    let look = c.in_ok-looked.ensures.looks (ms a.place) in
+    let told = c.in_ok-result.ensures in
+    let x = c.in_ok-result.result in
     let m = ran unit (ms a.place) t.slot st in
     let more = c.in-Some.ensures in
     let notes = c.in-Some.notes in

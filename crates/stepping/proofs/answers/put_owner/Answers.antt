@@ -20,8 +20,8 @@ owned names m t name e f a = same_text (sym (ap (owner names) e)) (same_text (ap
 pub returns-in-Transaction : goal.returns-in-Transaction
 returns-in-Transaction c = record {
   text =
-      owned (names_of c.args.file.now) c.args.message.now c.in-Transaction.transaction c.name-name.result.now c.in-Transaction.is c.name-name.ensures.value c.put-job.ensures.text;
-  short = c.put-job.ensures.short;
+      owned (names_of c.args.file.now) c.args.message.now c.in-Transaction.transaction c.name-name.result.now c.in-Transaction.is c.name-name.ensures.value c.put_job.ensures.text;
+  short = c.put_job.ensures.short;
 }
 
 pub returns-in-Epoch : goal.returns-in-Epoch

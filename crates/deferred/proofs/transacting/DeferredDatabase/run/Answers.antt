@@ -16,17 +16,17 @@ busy_is : (m : Meaning) (s : ℕ) (st : Statement) (c u : ℕ) (w b : Bool) → 
     → busy m s (unit_of_eight st.cell) (writes_cell st.operation) ≡ b
 busy_is m s st c u w b same at writes found = busy_at unit_of_eight m s st c same w b writes (found ∙ ap (λ n. busy m s n w) at)
 
-pub returns-then-not-is-open : goal.returns-then-not-is-open
-returns-then-not-is-open c = (run_closed (meaning_of c.args.self.now) c.args.slot unit_of_eight c.args.statement.now (sym c.if-not-is-open.ensures.value), refl)
+pub returns-then-not-is_open : goal.returns-then-not-is_open
+returns-then-not-is_open c = (run_closed (meaning_of c.args.self.now) c.args.slot unit_of_eight c.args.statement.now (sym c.if-not-is_open.ensures.value), refl)
 
-pub returns-then-is-busy : goal.returns-then-is-busy
-returns-then-is-busy c =
+pub returns-then-is_busy : goal.returns-then-is_busy
+returns-then-is_busy c =
     let m = meaning_of c.args.self.now in
     let s = c.args.slot in
     let st = c.args.statement.now in
     let same = c.cell-cell.ensures.value in (
-      run_busy m s unit_of_eight st (sym c.if-not-is-open.ensures.value)
-          (busy_is m s st c.cell-cell.result c.unit.result c.writes-writing.result true same c.unit.ensures.value c.writes-writing.ensures c.if-is-busy.ensures)
+      run_busy m s unit_of_eight st (sym c.if-not-is_open.ensures.value)
+          (busy_is m s st c.cell-cell.result c.unit.result c.writes-writing.result true same c.unit.ensures.value c.writes-writing.ensures c.if-is_busy.ensures)
           ∙ ap (λ k. Some (Busy k)) (sym same),
       refl,
     )
@@ -43,11 +43,11 @@ returns-then-writing c =
     let w = c.write.new.self in
     let is = c.in-Some.is in
     let seen = c.sees.ensures ∙ current_is d.cells d.slots d.mark s k c.in-Some.transaction is in (
-      run_free m s unit_of_eight st (sym c.if-not-is-open.ensures.value)
-          (busy_is m s st k c.unit.result c.writes-writing.result false same c.unit.ensures.value c.writes-writing.ensures c.if-is-busy.ensures),
+      run_free m s unit_of_eight st (sym c.if-not-is_open.ensures.value)
+          (busy_is m s st k c.unit.result c.writes-writing.result false same c.unit.ensures.value c.writes-writing.ensures c.if-is_busy.ensures),
       ran_answer unit_of_eight m s st k same e.answer (c.apply-effect.ensures.answer ∙ ap (answered st.operation) seen),
       ran_write unit_of_eight m s st k same (means d.cells (set d.slots s (Some w)) d.mark) e.value (sym c.if-writing.ensures) (c.apply-effect.ensures.value ∙ ap (changed st.operation) seen)
-          (write_means d.cells d.slots d.mark s (c.if-not-is-open.ensures.bound refl) d.slots_long k e.value c.in-Some.transaction w is c.write.ensures),
+          (write_means d.cells d.slots d.mark s (c.if-not-is_open.ensures.bound refl) d.slots_long k e.value c.in-Some.transaction w is c.write.ensures),
     )
 
 pub returns-else-writing : goal.returns-else-writing
@@ -61,9 +61,9 @@ returns-else-writing c =
     let w = c.read.new.self in
     let is = c.in-Some.is in
     let seen = c.sees.ensures ∙ current_is d.cells d.slots d.mark s k c.in-Some.transaction is in (
-      run_free m s unit_of_eight st (sym c.if-not-is-open.ensures.value)
-          (busy_is m s st k c.unit.result c.writes-writing.result false same c.unit.ensures.value c.writes-writing.ensures c.if-is-busy.ensures),
+      run_free m s unit_of_eight st (sym c.if-not-is_open.ensures.value)
+          (busy_is m s st k c.unit.result c.writes-writing.result false same c.unit.ensures.value c.writes-writing.ensures c.if-is_busy.ensures),
       ran_answer unit_of_eight m s st k same c.apply-effect.result.answer (c.apply-effect.ensures.answer ∙ ap (answered st.operation) seen),
       ran_look unit_of_eight m s st k same (means d.cells (set d.slots s (Some w)) d.mark) (sym c.if-writing.ensures)
-          (look_means d.cells d.slots d.mark s (c.if-not-is-open.ensures.bound refl) d.slots_long k c.in-Some.transaction w is c.read.ensures),
+          (look_means d.cells d.slots d.mark s (c.if-not-is_open.ensures.bound refl) d.slots_long k c.in-Some.transaction w is c.read.ensures),
     )

@@ -4,8 +4,8 @@ use Rattle.replica.proofs.Refused.{undo_closed, undo_free}
 use Rattle.deferred.specs.Means.{meaning_of}
 use Rattle.deferred.proofs.transacting.DeferredDatabase.undo.Goals as goal
 
-pub returns-then-not-is-open : goal.returns-then-not-is-open
-returns-then-not-is-open c = (undo_closed (meaning_of c.args.self.now) c.args.slot (sym c.if-not-is-open.ensures.value), refl)
+pub returns-then-not-is_open : goal.returns-then-not-is_open
+returns-then-not-is_open c = (undo_closed (meaning_of c.args.self.now) c.args.slot (sym c.if-not-is_open.ensures.value), refl)
 
 pub returns : goal.returns
-returns c = (undo_free (meaning_of c.args.self.now) c.args.slot (sym c.if-not-is-open.ensures.value), tt, c.close.ensures)
+returns c = (undo_free (meaning_of c.args.self.now) c.args.slot (sym c.if-not-is_open.ensures.value), tt, c.close.ensures)

@@ -6,11 +6,11 @@ use Rattle.pronto.specs.Acts.{NothingTold}
 use Rattle.ensemble.proofs.Lifts.{acts_put, site_got, nobody_there}
 use Rattle.ensemble.proofs.ensembles.Ensemble.begin.Goals as goal
 
-pub returns-in-default : goal.returns-in-default
-returns-in-default g c =
+pub returns-in_default : goal.returns-in_default
+returns-in_default g c =
     let a = c.args in
     let e = a.self.now in
-    let none = c.in-default.ensures.0 in
+    let none = c.in_default.ensures.0 in
     record {
       slot = 0;
       free = λ _. (omega arith, ap (λ (v : Site). v.rows 0) (nobody_there e.count.count e.servers.all (g.K.ReplicaBank.meanings e.bank) a.id.server none));

@@ -13,8 +13,8 @@ pub returns-in-Ok : goal.returns-in-Ok
 returns-in-Ok g c =
     let e = c.args.self.now in
     let s = state g.B.Broadcast g.K.ReplicaBank g.K.DatabaseBank e in
-    let place = c.in-ok-place.ensures in
-    let p = c.in-ok-place.place in
+    let place = c.in_ok-place.ensures in
+    let p = c.in_ok-place.place in
     let eight = e.servers.eight in
     let low : p < length e.servers.all = omega (arith, place.2) in
     let told = c.in-Ok.ensures in (

@@ -11,19 +11,19 @@ use Rattle.ensemble.specs.Asking.{if_told, if_server}
 use Rattle.ensemble.proofs.Told.{told_server}
 use Rattle.ensemble.proofs.ensembles.Ensemble.transaction_state.Goals as goal
 
-pub returns-in-default : goal.returns-in-default
-returns-in-default g c =
+pub returns-in_default : goal.returns-in_default
+returns-in_default g c =
     let s = state g.B.Broadcast g.K.ReplicaBank g.K.DatabaseBank c.args.self.now in
     let i = c.args.id.server in
     let k = c.args.id.client in
     let j = c.args.id.job in
-    let asked = c.in-ok-asked.ensures in
+    let asked = c.in_ok-asked.ensures in
     let no-client = refusal.Server i fault.NoClient in
     let no-transaction = refusal.Server i fault.NoTransaction in
     let found = state_found (find (s.servers i) k j) in
     told_server s i (cond (ltb 15 k) (Some no-client) (if_told found (Some no-transaction))) asked.0
-    ∙ cond-false (ltb 15 k) (Some no-client) (if_told found (Some no-transaction)) (le-ltb 15 k c.if-id-gt-LAST-CLIENT.false)
-    ∙ ap (λ x. if_told x (Some no-transaction)) (sym (c.in-default.ensures (s.servers i).db ∙ ap (λ (u : Site). state_found (find u k j)) asked.1.3))
+    ∙ cond-false (ltb 15 k) (Some no-client) (if_told found (Some no-transaction)) (le-ltb 15 k c.if-id-gt-LAST_CLIENT.false)
+    ∙ ap (λ x. if_told x (Some no-transaction)) (sym (c.in_default.ensures (s.servers i).db ∙ ap (λ (u : Site). state_found (find u k j)) asked.1.3))
 
 pub returns : goal.returns
 returns g c =
@@ -31,13 +31,13 @@ returns g c =
     let i = c.args.id.server in
     let k = c.args.id.client in
     let j = c.args.id.job in
-    let asked = c.in-ok-asked.ensures in
+    let asked = c.in_ok-asked.ensures in
     let no-client = refusal.Server i fault.NoClient in
     let no-transaction = refusal.Server i fault.NoTransaction in
     let found = state_found (find (s.servers i) k j) in
     let same = c.in-Some.ensures (s.servers i).db ∙ ap (λ (u : Site). state_found (find u k j)) asked.1.3 in (
       told_server s i (cond (ltb 15 k) (Some no-client) (if_told found (Some no-transaction))) asked.0
-          ∙ cond-false (ltb 15 k) (Some no-client) (if_told found (Some no-transaction)) (le-ltb 15 k c.if-id-gt-LAST-CLIENT.false)
+          ∙ cond-false (ltb 15 k) (Some no-client) (if_told found (Some no-transaction)) (le-ltb 15 k c.if-id-gt-LAST_CLIENT.false)
           ∙ ap (λ x. if_told x (Some no-transaction)) (sym same),
       same,
     )

@@ -5,5 +5,5 @@ use Rattle.in_place.proofs.replicating.InPlaceReplica.clear.Goals as goal
 pub returns : goal.returns
 returns c = clear_means c.args.self.now.reads
 
-pub invariant-of-self : goal.invariant-of-self
-invariant-of-self c = (refl, (c.args.self.now.rows, (bare_held (replicate 8 false), tt)))
+pub invariant_of-self : goal.invariant_of-self
+invariant_of-self c = (refl, (c.args.self.now.rows, (bare_held (replicate 8 false), tt)))

@@ -6,5 +6,5 @@ use Rattle.in_place.proofs.state.InPlace.new.Goals as goal
 pub returns : goal.returns
 returns c = clear_means (replicate 8 (replicate 64 false))
 
-pub invariant-of-result : goal.invariant-of-result
-invariant-of-result c = (refl, (λ t h. ap length (get_or-replicate 8 t (replicate 64 false) [] h), (bare_held (replicate 8 false), tt)))
+pub invariant_of-result : goal.invariant_of-result
+invariant_of-result c = (refl, (λ t h. ap length (get_or-replicate 8 t (replicate 64 false) [] h), (bare_held (replicate 8 false), tt)))

@@ -16,8 +16,8 @@ returns c =
     ap (λ x. means (set d.cells k v) (set d.formers k (Some (record { slot = s; value = x }))) d.opens d.reads d.mark) c.base.ensures
     ∙ write_means d long s c.requires.slot tall k v c.requires.cell o c.requires.free
 
-pub invariant-of-self : goal.invariant-of-self
-invariant-of-self c =
+pub invariant_of-self : goal.invariant_of-self
+invariant_of-self c =
     let d = c.args.self.now in
     let s = c.args.slot in
     let long : length d.opens ≡ 8 = search rules in

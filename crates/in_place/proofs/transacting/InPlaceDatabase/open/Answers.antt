@@ -7,8 +7,8 @@ use Rattle.in_place.proofs.transacting.InPlaceDatabase.open.Goals as goal
 pub returns-then-slot-ge-SLOTS : goal.returns-then-slot-ge-SLOTS
 returns-then-slot-ge-SLOTS c = (open_no_slot (meaning_of c.args.self.now) c.args.slot (omega arith), refl)
 
-pub returns-then-is-open : goal.returns-then-is-open
-returns-then-is-open c = (open_twice (meaning_of c.args.self.now) c.args.slot (omega arith) (sym c.if-is-open.ensures.value), refl)
+pub returns-then-is_open : goal.returns-then-is_open
+returns-then-is_open c = (open_twice (meaning_of c.args.self.now) c.args.slot (omega arith) (sym c.if-is_open.ensures.value), refl)
 
 pub returns : goal.returns
 returns c =
@@ -17,11 +17,11 @@ returns c =
     let low : s < 8 = omega arith in
     let long : length d.opens ≡ 8 = search rules in
     let wide : length d.reads ≡ 8 = search rules in
-    let shut = c.if-is-open.ensures in
+    let shut = c.if-is_open.ensures in
     (open_free (meaning_of d) s low (sym shut.value), tt, open_means d long s low wide (sym shut.flag))
 
-pub invariant-of-self : goal.invariant-of-self
-invariant-of-self c =
+pub invariant_of-self : goal.invariant_of-self
+invariant_of-self c =
     let d = c.args.self.now in
     let s = c.args.slot in
     let in_reads : s < length d.reads = search rules in

@@ -10,7 +10,7 @@ at_none (Some x) P Q e h = let z : ◌≡◌ {A = ℕ} 0 1 = cc in absurd (omega
 
 pub loop-steps-preserved : goal.loop-steps-preserved
 loop-steps-preserved c =
-    below_more _ _ c.loop-steps.invariant (at_none c.oldest-in-found.result _ _ c.if-is-some.ensures c.oldest-in-found.ensures)
+    below_more _ _ c.loop-steps.invariant (at_none c.oldest_in-found.result _ _ c.if-is_some.ensures c.oldest_in-found.ensures)
 
 pub returns : goal.returns
 returns c =

@@ -4,11 +4,11 @@ use Rattle.server.specs.Shown.{shown, work_of}
 use Rattle.server.proofs.Reasons.{commit_sends}
 use Rattle.server.proofs.servers.Server.commit_message.Goals as goal
 
-pub returns-in-err-transaction : goal.returns-in-err-transaction
-returns-in-err-transaction c = let p = err_from_is_err_and c.from-residual.result c.from-residual.ensures.1 in rw (p.1, p.2) c.in-err-transaction.ensures.looks
+pub returns-in_err-transaction : goal.returns-in_err-transaction
+returns-in_err-transaction c = let p = err_from_is_err_and c.from_residual.result c.from_residual.ensures.1 in rw (p.1, p.2) c.in_err-transaction.ensures.looks
 
 pub returns : goal.returns
 returns c = λ m.
-    let t = c.in-ok-transaction.transaction in
-    let look = c.in-ok-transaction.ensures.looks m in
+    let t = c.in_ok-transaction.transaction in
+    let look = c.in_ok-transaction.ensures.looks m in
     (look.0, sym (commit_sends c.args.client c.args.job (shown c.args.self.now m) t.slot (work_of t.row) look.1.0 c.args.number))

@@ -11,11 +11,11 @@ loop-slot-preserved c =
     let lt : c.loop-slot.slot < length xs = omega (arith, c.args.self.now.room, c.loop-slot-test.true) in
     none_more c.loop-slot.slot (λ p. not (is_some (rows_of xs p))) c.loop-slot.invariant (ap (λ (o : Option Work). not (is_some o)) (row_at xs c.loop-slot.slot c.index-self-slot.result lt ∙ ap seen_row c.in-Some.is))
 
-pub returns-in-default : goal.returns-in-default
-returns-in-default c =
+pub returns-in_default : goal.returns-in_default
+returns-in_default c =
     let xs = c.args.self.now.rows in
     let lt : c.loop-slot.slot < length xs = omega (arith, c.args.self.now.room, c.loop-slot-test.true) in
-    (c.loop-slot-test.true, row_at xs c.loop-slot.slot c.index-self-slot.result lt ∙ ap seen_row c.in-default.is)
+    (c.loop-slot-test.true, row_at xs c.loop-slot.slot c.index-self-slot.result lt ∙ ap seen_row c.in_default.is)
 
 pub returns : goal.returns
 returns c = none_all 8 c.loop-slot.slot (λ p. not (is_some (rows_of c.args.self.now.rows p))) c.loop-slot.invariant (omega arith) (omega (arith, c.loop-slot.auto.slot-end))

@@ -35,12 +35,12 @@ returns c =
     let made = c.in-Ok.ensures in
     let found = c.in-Some.found in
     let here = sym c.in-Some.ensures.value in
-    let on = goes_on found.1.state Run c.in-ok-outcome.outcome refl c.in-ok-outcome.ensures in
+    let on = goes_on found.1.state Run c.in_ok-outcome.outcome refl c.in_ok-outcome.ensures in
     let few : length (statements_of found.1.notes) < 6 = omega (arith, c.len.ensures) in
     record {
       low = c.in-Some.ensures.low;
       looks = λ m. (
-        not_refused (shown a.self.now m) a.client a.job found.0 (work_of found.1) a.cell a.operation c.if-not-self.false c.if-client-gt-LAST-CLIENT.false made.0 here on.0 few,
+        not_refused (shown a.self.now m) a.client a.job found.0 (work_of found.1) a.cell a.operation c.if-not-self.false c.if-client-gt-LAST_CLIENT.false made.0 here on.0 few,
         (checked_is c.in-Ok.statement a.cell a.operation made.1 made.2, (here, on.1), few),
       );
     }

@@ -8,16 +8,16 @@ use Rattle.server.proofs.Reasons.{commit_leaves, commit_leaves_all}
 use Rattle.server.proofs.Arriving.{goes_on, turned_down}
 use Rattle.server.proofs.servers.Server.send_off.Goals as goal
 
-pub returns-in-default : goal.returns-in-default
-returns-in-default c = λ m. sym (commit_leaves_all c.args.client c.args.job (shown c.args.self.now m) (sym c.in-default.ensures.value))
+pub returns-in_default : goal.returns-in_default
+returns-in_default c = λ m. sym (commit_leaves_all c.args.client c.args.job (shown c.args.self.now m) (sym c.in_default.ensures.value))
 
-pub returns-in-default-arrive : goal.returns-in-default-arrive
-returns-in-default-arrive c = λ m.
+pub returns-in_default-arrive : goal.returns-in_default-arrive
+returns-in_default-arrive c = λ m.
     let v = c.args.self.now in
     let found = c.in-Some.found in
     let here = sym c.in-Some.ensures.value in
     let w = work_of found.1 in
-    let committing = (turned_down found.1.state Commit c.in-default-arrive.field-0 c.in-default-arrive.ensures).0 in
+    let committing = (turned_down found.1.state Commit c.in_default-arrive.field-0 c.in_default-arrive.ensures).0 in
     let W : Bool → Work = λ b. record { client = w.client; job = w.job; stmts = w.stmts; results = w.results; committing = b } in
     let V : Work → Site = λ x. with_row (shown v m) found.0 (Some x) in
     let F : (ℕ → Option Work) → Site = λ f. record { running = v.running; epoch = v.epoch; delivered = v.delivered; bar = v.bar; rows = f; db = m } in

@@ -9,8 +9,8 @@ use Rattle.in_turn.proofs.lines.ordering.InTurnBroadcast.message_at.Goals as goa
 pub index-requires : goal.index-requires
 index-requires c = omega (arith, length-map c.args.self.now.ordered.items msg_of)
 
-pub returns-then-position-ordered-count : goal.returns-then-position-ordered-count
-returns-then-position-ordered-count c = nth_past (log_of c.args.self.now) c.args.position (omega arith)
+pub returns-then-position-ordered_count : goal.returns-then-position-ordered_count
+returns-then-position-ordered_count c = nth_past (log_of c.args.self.now) c.args.position (omega arith)
 
 pub returns : goal.returns
 returns c =

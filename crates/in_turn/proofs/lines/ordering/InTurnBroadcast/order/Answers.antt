@@ -23,7 +23,7 @@ returns c =
     let short : place < length xs = omega (arith, within (waiting_of s) place chosen.2.0.0 chosen.2.0.1, length-map xs msg_of) in
     let there : nth (waiting_of s) place ≡ Some (msg_of m) = read_at xs xs place m refl short c.remove-message.ensures.value in
     record {
-      moved = (c.ordered-count-position.ensures, moved_from (log_of s) (waiting_of s) _ _ place (msg_of m) there (left_shown xs _ place (search rules)) (longer_shown m s.ordered.items _ (search rules)));
+      moved = (c.ordered_count-position.ensures, moved_from (log_of s) (waiting_of s) _ _ place (msg_of m) there (left_shown xs _ place (search rules)) (longer_shown m s.ordered.items _ (search rules)));
       capacity = refl;
       turn = record {
         place = place;
@@ -32,6 +32,6 @@ returns c =
         there = there;
         left = left_shown xs _ place (search rules);
         added = longer_shown m s.ordered.items _ (search rules);
-        turn = ap (λ n. (n + 1) % 8) c.line-of.ensures;
+        turn = ap (λ n. (n + 1) % 8) c.line_of.ensures;
       };
     }

@@ -10,8 +10,8 @@ index-requires c =
     let h : s.count ≤ length s.messages.items = omega arith in
     omega (arith, log_length s.count s.messages.items h)
 
-pub returns-then-position-ordered-count : goal.returns-then-position-ordered-count
-returns-then-position-ordered-count c =
+pub returns-then-position-ordered_count : goal.returns-then-position-ordered_count
+returns-then-position-ordered_count c =
     let s = c.args.self.now in
     nth_past (log_of_front s.count s.messages.items) c.args.position (omega arith)
 

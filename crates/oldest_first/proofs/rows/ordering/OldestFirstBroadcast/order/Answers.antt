@@ -16,4 +16,4 @@ returns c =
     let xs = c.args.self.now.messages.items in
     let h : n < length xs = omega arith in
     let f = first_moved n xs h in
-    record { moved = (c.ordered-count-position.ensures, moved f.0 _ _ _ _ f.1 f.2); capacity = refl; oldest = f }
+    record { moved = (c.ordered_count-position.ensures, moved f.0 _ _ _ _ f.1 f.2); capacity = refl; oldest = f }
