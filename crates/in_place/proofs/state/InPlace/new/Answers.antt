@@ -7,4 +7,4 @@ pub returns : goal.returns
 returns c = clear_means (replicate 8 (replicate 64 false))
 
 pub invariant_of-result : goal.invariant_of-result
-invariant_of-result c = (refl, (λ t h. ap length (get_or-replicate 8 t (replicate 64 false) [] h), (bare_held (replicate 8 false), tt)))
+invariant_of-result c = record { deep = refl; rows = λ t h. ap length (get_or-replicate 8 t (replicate 64 false) [] h); held = bare_held (replicate 8 false) }

@@ -22,4 +22,4 @@ invariant_of-self c =
     let s = c.args.slot in
     let long : length d.opens ≡ 8 = search rules in
     let o : get_or d.opens s false ≡ true = sym (open_is d s) ∙ c.requires.opened in
-    (simp length-set d.deep, (d.rows, (write_held d long s c.requires.slot c.args.cell _ c.requires.cell o, tt)))
+    record { deep = simp length-set d.deep; rows = d.rows; held = write_held d long s c.requires.slot c.args.cell _ c.requires.cell o }

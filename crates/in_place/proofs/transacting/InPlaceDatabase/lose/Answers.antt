@@ -7,4 +7,4 @@ pub returns : goal.returns
 returns c = lose_means c.args.self.now c.base_all.new.cells c.base_all.ensures
 
 pub invariant_of-self : goal.invariant_of-self
-invariant_of-self c = (refl, (c.args.self.now.rows, (bare_held (replicate 8 false), tt)))
+invariant_of-self c = record { deep = refl; rows = c.args.self.now.rows; held = bare_held (replicate 8 false) }

@@ -26,4 +26,4 @@ invariant_of-self c =
     let s = c.args.slot in
     let in_reads : s < length d.reads = search rules in
     let in_opens : s < length d.opens = search rules in
-    (d.deep, (rows_set d.reads s _ in_reads refl d.rows, (open_held d.formers d.opens s in_opens d.held, tt)))
+    record { deep = d.deep; rows = rows_set d.reads s _ in_reads refl d.rows; held = open_held d.formers d.opens s in_opens d.held }
