@@ -5,4 +5,4 @@ use Rattle.pairs.proofs.Ahead.{out_none}
 use Rattle.pairs.proofs.NothingDatabaseBank.open.Goals as goal
 
 pub returns : goal.returns
-returns c = (out_none c.args.-place (open_refusal cleared c.args.-slot), refl)
+returns c = (out_none c.args._place (open_refusal cleared c.args._slot), refl)

@@ -5,4 +5,4 @@ use Rattle.pairs.proofs.Ahead.{out_none}
 use Rattle.pairs.proofs.NothingReplicaBank.intake.Goals as goal
 
 pub returns : goal.returns
-returns c = (out_none c.args.-place (intake_refusal cleared c.args.-position), refl)
+returns c = (out_none c.args._place (intake_refusal cleared c.args._position), refl)

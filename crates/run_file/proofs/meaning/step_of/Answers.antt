@@ -11,6 +11,6 @@ use Rattle.run_file.proofs.meaning.step_of.Goals as goal
 pub returns-in-Some : goal.returns-in-Some
 returns-in-Some c =
     let told = c.in-Some.ensures in
-    let P : Command → Type 0 = λ d. (k : ℕ) × Numbered (texts c.args.names.now) k (name_in d) × (step.Act c.act_of_job.result ≡ step_at k d) in
+    let P : Command → Type 0 = λ d. (k : ℕ) × Numbered (texts c.args.names.now) k (name_in d) × (step.Act c.job_act.result ≡ step_at k d) in
     subst P (sym c.in-Job.is)
-    (c.in-Some.id.client, told.0, ap (λ (a : Act). step.Act a) (c.act_of_job.ensures ∙ ap (λ (t : TransactionId). act_of_job c.in-Job.verb t) told.1))
+    (c.in-Some.id.client, told.0, ap (λ (a : Act). step.Act a) (c.job_act.ensures ∙ ap (λ (t : TransactionId). act_of_job c.in-Job.verb t) told.1))

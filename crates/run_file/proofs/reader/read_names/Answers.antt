@@ -1,4 +1,4 @@
-use Rattle.std.proofs.Common.{◌≡◌, ℕ, ◌+◌, ◌<◌, List, [], ◌∷◌, ◌++◌, length, vec_items, sym, refl, ap, ◌∙◌, subst, arith, length-append, MutBor}
+use Rattle.std.proofs.Common.{◌≡◌, ℕ, ◌+◌, ◌<◌, List, [], ◌∷◌, ◌++◌, length, vec_items, sym, refl, ap, ◌∙◌, subst, arith, length-append, Bor}
 use Rattle.std.proofs.lemmas.List.{length-map}
 use Rattle.lexing.specs.Forms as forms
 use Rattle.lexing.proofs.Digits.{name_free}
@@ -34,7 +34,7 @@ returns-in_default c =
 -- what is not fresh among the slice is not fresh among the names
 stale : (c : goal.Then-not-is_fresh) → forms.Name c.in-Some.name.now × Apart (texts (vec_items c.loop-i.names)) c.in-Some.name.now → ⊥
 stale c good =
-    let P : List (MutBor (List ℕ)) → Type 0 = λ ns. forms.Name c.in-Some.name.now × Apart (texts ns) c.in-Some.name.now in
+    let P : List (Bor (List ℕ)) → Type 0 = λ ns. forms.Name c.in-Some.name.now × Apart (texts ns) c.in-Some.name.now in
     let t = c.is_fresh.ensures.1 (subst P (sym c.as_slice.ensures.value) good) in
     let z : ◌≡◌ {A = ℕ} 0 1 = cc (t, c.if-not-is_fresh.true) in
     omega arith
@@ -65,7 +65,7 @@ loop-i-preserved c =
     let l = c.in-Some.name.now in
     let items = c.push_reserved.ensures.items in
     let grown : texts (vec_items c.push_reserved.new.self) ≡ texts ns ++ l ∷ [] = ap texts items ∙ map_more text_of ns c.in-Some.name in
-    let P : List (MutBor (List ℕ)) → Type 0 = λ ns. forms.Name l × Apart (texts ns) l in
+    let P : List (Bor (List ℕ)) → Type 0 = λ ns. forms.Name l × Apart (texts ns) l in
     let fresh : P ns = subst P c.as_slice.ensures.value (c.is_fresh.ensures.0 c.if-not-is_fresh.false) in (
       omega (arith, ap length items, length-append ns (c.in-Some.name ∷ []), inv.0),
       subst AllNames (sym grown) (names_more (texts ns) l inv.1 fresh.0 fresh.1),

@@ -26,7 +26,7 @@ returns-in_err-message g c =
     let eight : length e.servers.all ≡ 8 = e.servers.eight in
     let v = shown c.in-Ok.found.1 (ms p) in
     let site = site_got (g.B.Broadcast.log b) (g.B.Broadcast.waiting b) (g.B.Broadcast.capacity b) e.count.count g.K.ReplicaBank.size g.K.DatabaseBank.units e.sent e.servers.all ms i p c.in-Ok.found.1 c.in-Ok.ensures.1 place eight in
-    let told = looked_refused {T = Transaction} i (first (open_table v c.args.id.client c.args.id.job)) (λ t. transaction (tx_of t) ≡ message_to_commit i v c.args.id.client c.args.id.job) c.message_to_commit.result c.in_err-message.field-0.0 (c.message_to_commit.ensures (ms p)) c.in_err-message.ensures in
+    let told = looked_refused {T = Transaction} i (first (open_table v c.args.id.client c.args.id.job)) (λ t. transaction (tx_of t) ≡ message_to_commit i v c.args.id.client c.args.id.job) c.commit_message.result c.in_err-message.field-0.0 (c.commit_message.ensures (ms p)) c.in_err-message.ensures in
     let q = err_from_is_err_and c.from_residual.result c.from_residual.ensures.1 in
     rw (q.1, q.2) (sends_refused s i (λ (u : Site). first (open_table u c.args.id.client c.args.id.job)) v place.0 site told.0 told.1 ∙ ap Some (sym told.2), refl)
 
@@ -42,7 +42,7 @@ returns-in_default-offer g c =
     let eight : length e.servers.all ≡ 8 = e.servers.eight in
     let v = shown c.in-Ok.found.1 (ms p) in
     let site = site_got (g.B.Broadcast.log b) (g.B.Broadcast.waiting b) (g.B.Broadcast.capacity b) e.count.count g.K.ReplicaBank.size g.K.DatabaseBank.units e.sent e.servers.all ms i p c.in-Ok.found.1 c.in-Ok.ensures.1 place eight in
-    let found = looked_found {T = Transaction} i (first (open_table v c.args.id.client c.args.id.job)) (λ t. transaction (tx_of t) ≡ message_to_commit i v c.args.id.client c.args.id.job) c.message_to_commit.result c.in_ok-message.message (c.message_to_commit.ensures (ms p)) c.in_ok-message.ensures in
+    let found = looked_found {T = Transaction} i (first (open_table v c.args.id.client c.args.id.job)) (λ t. transaction (tx_of t) ≡ message_to_commit i v c.args.id.client c.args.id.job) c.commit_message.result c.in_ok-message.message (c.commit_message.ensures (ms p)) c.in_ok-message.ensures in
     let o = c.in_default-offer.ensures in
     let after = c.offer.new.self in (
       sends_full s i (λ (u : Site). first (open_table u c.args.id.client c.args.id.job)) v place.0 site found.0 o.waiting.0,
@@ -61,7 +61,7 @@ returns g c =
     let eight : length e.servers.all ≡ 8 = e.servers.eight in
     let v = shown c.in-Ok.found.1 (ms p) in
     let site = site_got (g.B.Broadcast.log b) (g.B.Broadcast.waiting b) (g.B.Broadcast.capacity b) e.count.count g.K.ReplicaBank.size g.K.DatabaseBank.units e.sent e.servers.all ms i p c.in-Ok.found.1 c.in-Ok.ensures.1 place eight in
-    let found = looked_found {T = Transaction} i (first (open_table v c.args.id.client c.args.id.job)) (λ t. transaction (tx_of t) ≡ message_to_commit i v c.args.id.client c.args.id.job) c.message_to_commit.result c.in_ok-message.message (c.message_to_commit.ensures (ms p)) c.in_ok-message.ensures in
+    let found = looked_found {T = Transaction} i (first (open_table v c.args.id.client c.args.id.job)) (λ t. transaction (tx_of t) ≡ message_to_commit i v c.args.id.client c.args.id.job) c.commit_message.result c.in_ok-message.message (c.commit_message.ensures (ms p)) c.in_ok-message.ensures in
     let o = c.in-Ok-offer.ensures in
     let after = c.offer.new.self in
     let F : Msg → Type 0 = λ m. Inserted m s.waiting (g.B.Broadcast.waiting after) in (
