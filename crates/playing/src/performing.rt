@@ -47,7 +47,7 @@ fn delivered(outcome: Result<(u64, Judgement), Refusal>) -> Answer
 
 /// Performs an act, and answers what it answers.
 pub fn perform<B: Broadcast, K: DatabaseBank>(ensemble: &mut Ensemble<B, K>, act: Act) -> Answer
-    ensures { Step (state B.Broadcast K.ReplicaBank K.DatabaseBank ensemble.old) act result (state B.Broadcast K.ReplicaBank K.DatabaseBank ensemble.new) }
+    ensures { Step (state B.Broadcast K.ReplicaBank K.DatabaseBank.own ensemble.old) act result (state B.Broadcast K.ReplicaBank K.DatabaseBank.own ensemble.new) }
 {
     match act {
         Act::Begin(id) => done(ensemble.begin(id)),

@@ -36,7 +36,7 @@ fn perform_all<B: Broadcast, K: DatabaseBank>(
     history: &mut Vec<Entry>,
 )
     requires { vec_len history.old + length acts.now ≤ vec_capacity history.old }
-    ensures { Played acts.now history.old.items history.new.items (state B.Broadcast K.ReplicaBank K.DatabaseBank ensemble.old) (state B.Broadcast K.ReplicaBank K.DatabaseBank ensemble.new) }
+    ensures { Played acts.now history.old.items history.new.items (state B.Broadcast K.ReplicaBank K.DatabaseBank.own ensemble.old) (state B.Broadcast K.ReplicaBank K.DatabaseBank.own ensemble.new) }
 {
     for act in acts {
         let answer = perform(ensemble, *act);
@@ -53,7 +53,7 @@ pub fn play<B: Broadcast, K: DatabaseBank>(
     acts: &[Act],
     history: &mut Vec<Entry>,
 ) -> Result<(), NoRoom>
-    ensures { Plays result acts.now (vec_len history.old) (vec_capacity history.old) history.old.items history.new.items (state B.Broadcast K.ReplicaBank K.DatabaseBank ensemble.old) (state B.Broadcast K.ReplicaBank K.DatabaseBank ensemble.new) }
+    ensures { Plays result acts.now (vec_len history.old) (vec_capacity history.old) history.old.items history.new.items (state B.Broadcast K.ReplicaBank K.DatabaseBank.own ensemble.old) (state B.Broadcast K.ReplicaBank K.DatabaseBank.own ensemble.new) }
 {
     if !has_room(acts, history) {
         return Err(NoRoom);
@@ -74,7 +74,7 @@ pub fn play_new<B: Broadcast, K: DatabaseBank>(
     acts: &[Act],
     history: &mut Vec<Entry>,
 ) -> Result<Ensemble<B, K>, Unplayed<B, K>>
-    ensures { NewPlayed B.Broadcast K.ReplicaBank K.DatabaseBank broadcast bank servers acts.now (vec_len history.old) (vec_capacity history.old) history.old.items history.new.items result }
+    ensures { NewPlayed B.Broadcast K.ReplicaBank K.DatabaseBank.own broadcast bank servers acts.now (vec_len history.old) (vec_capacity history.old) history.old.items history.new.items result }
 {
     if !has_room(acts, history) {
         return Err(Unplayed::Room(Unmade { broadcast, bank }));

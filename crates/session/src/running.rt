@@ -24,7 +24,7 @@ fn step_into<B: Broadcast, K: DatabaseBank>(
 ) -> usize
     requires there { place < length (lines_of file.now) }
     requires room { at + 97 ≤ length output.old }
-    ensures { Stepped (names_of file.now) (line_at (lines_of file.now) place) output.old at output.new result (state B.Broadcast K.ReplicaBank K.DatabaseBank ensemble.old) (state B.Broadcast K.ReplicaBank K.DatabaseBank ensemble.new) }
+    ensures { Stepped (names_of file.now) (line_at (lines_of file.now) place) output.old at output.new result (state B.Broadcast K.ReplicaBank K.DatabaseBank.own ensemble.old) (state B.Broadcast K.ReplicaBank K.DatabaseBank.own ensemble.new) }
 {
     let end = at + LINE_BYTES;
     let Ok(Some(n)) = take_step(file, place, ensemble, &mut output[at..end]) else {

@@ -98,7 +98,7 @@ fn put_owner_at<B: Broadcast, K: DatabaseBank>(
     position: u64,
 ) -> usize
     requires { at + 19 ≤ length line.old }
-    ensures text { Adds line.old at (owner_text (names_of file.now) (nth (state B.Broadcast K.ReplicaBank K.DatabaseBank ensemble.now).log position)) line.new result }
+    ensures text { Adds line.old at (owner_text (names_of file.now) (nth (state B.Broadcast K.ReplicaBank K.DatabaseBank.own ensemble.now).log position)) line.new result }
     ensures short { result ≤ at + 19 }
 {
     match ensemble.message(position) {
@@ -117,7 +117,7 @@ fn put_delivered<B: Broadcast, K: DatabaseBank>(
     judgement: Judgement,
 ) -> usize
     requires { at + 70 ≤ length line.old }
-    ensures { Adds line.old at (told_text position ++ judgement_text (owner_text (names_of file.now) (nth (state B.Broadcast K.ReplicaBank K.DatabaseBank ensemble.now).log position)) judgement) line.new result }
+    ensures { Adds line.old at (told_text position ++ judgement_text (owner_text (names_of file.now) (nth (state B.Broadcast K.ReplicaBank K.DatabaseBank.own ensemble.now).log position)) judgement) line.new result }
 {
     let at = put_told(line, at, position);
     match judgement {
@@ -149,7 +149,7 @@ pub(crate) fn put_answer<B: Broadcast, K: DatabaseBank>(
     answer: Answer,
 ) -> usize
     requires { at + longest_answer answer ≤ length line.old }
-    ensures { Adds line.old at (answer_text (names_of file.now) (state B.Broadcast K.ReplicaBank K.DatabaseBank ensemble.now).log answer) line.new result }
+    ensures { Adds line.old at (answer_text (names_of file.now) (state B.Broadcast K.ReplicaBank K.DatabaseBank.own ensemble.now).log answer) line.new result }
 {
     match answer {
         Answer::Done => put(line, at, b"ok"),

@@ -38,7 +38,7 @@ pub fn take_step<B: Broadcast, K: DatabaseBank>(
     ensemble: &mut Ensemble<B, K>,
     line: &mut [u8],
 ) -> Result<Option<usize>, ShortLine>
-    ensures { Steps result (names_of file.now) (line_at (lines_of file.now) place) line.old line.new (state B.Broadcast K.ReplicaBank K.DatabaseBank ensemble.old) (state B.Broadcast K.ReplicaBank K.DatabaseBank ensemble.new) }
+    ensures { Steps result (names_of file.now) (line_at (lines_of file.now) place) line.old line.new (state B.Broadcast K.ReplicaBank K.DatabaseBank.own ensemble.old) (state B.Broadcast K.ReplicaBank K.DatabaseBank.own ensemble.new) }
 {
     if line.len() < LINE_BYTES {
         return Err(ShortLine);

@@ -22,7 +22,7 @@ fn told(outcome: Result<u64, Refusal>) -> Answer
 
 /// Takes a step, and answers what its act or its question answers.
 pub fn take<B: Broadcast, K: DatabaseBank>(ensemble: &mut Ensemble<B, K>, step: Step) -> Answer
-    ensures { Takes (state B.Broadcast K.ReplicaBank K.DatabaseBank ensemble.old) step result (state B.Broadcast K.ReplicaBank K.DatabaseBank ensemble.new) }
+    ensures { Takes (state B.Broadcast K.ReplicaBank K.DatabaseBank.own ensemble.old) step result (state B.Broadcast K.ReplicaBank K.DatabaseBank.own ensemble.new) }
 {
     match step {
         Step::Act(act) => perform(ensemble, act),

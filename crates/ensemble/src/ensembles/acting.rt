@@ -16,7 +16,7 @@ impl<B: Broadcast, K: DatabaseBank> Ensemble<B, K> {
     ///
     /// Refused by 1, 2, 4, 6, 7, 8 and 9.
     pub fn begin(&mut self, id: TransactionId) -> Result<(), Refusal>
-        ensures { Begin id.client id.job (state B.Broadcast K.ReplicaBank K.DatabaseBank self.old) id.server result (state B.Broadcast K.ReplicaBank K.DatabaseBank self.new) }
+        ensures { Begin id.client id.job (state B.Broadcast K.ReplicaBank K.DatabaseBank.own self.old) id.server result (state B.Broadcast K.ReplicaBank K.DatabaseBank.own self.new) }
     {
         let Ok(found) = self.find(id.server) else {
             return Err(Refusal::NoServer);
@@ -44,7 +44,7 @@ impl<B: Broadcast, K: DatabaseBank> Ensemble<B, K> {
         cell: u64,
         operation: Operation,
     ) -> Result<u64, Refusal>
-        ensures { Run id.client id.job cell operation (state B.Broadcast K.ReplicaBank K.DatabaseBank self.old) id.server result (state B.Broadcast K.ReplicaBank K.DatabaseBank self.new) }
+        ensures { Run id.client id.job cell operation (state B.Broadcast K.ReplicaBank K.DatabaseBank.own self.old) id.server result (state B.Broadcast K.ReplicaBank K.DatabaseBank.own self.new) }
     {
         let Ok(found) = self.find(id.server) else {
             return Err(Refusal::NoServer);
@@ -67,7 +67,7 @@ impl<B: Broadcast, K: DatabaseBank> Ensemble<B, K> {
     ///
     /// Refused by 1, 2, 4, 10 and 11.
     pub fn abort(&mut self, id: TransactionId) -> Result<(), Refusal>
-        ensures { Abort id.client id.job (state B.Broadcast K.ReplicaBank K.DatabaseBank self.old) id.server result (state B.Broadcast K.ReplicaBank K.DatabaseBank self.new) }
+        ensures { Abort id.client id.job (state B.Broadcast K.ReplicaBank K.DatabaseBank.own self.old) id.server result (state B.Broadcast K.ReplicaBank K.DatabaseBank.own self.new) }
     {
         let Ok(found) = self.find(id.server) else {
             return Err(Refusal::NoServer);
@@ -82,7 +82,7 @@ impl<B: Broadcast, K: DatabaseBank> Ensemble<B, K> {
     ///
     /// Refused by 1, 2 and 16.
     pub fn deliver(&mut self, server: u8) -> Result<(u64, Judgement), Refusal>
-        ensures { Deliver (state B.Broadcast K.ReplicaBank K.DatabaseBank self.old) server result (state B.Broadcast K.ReplicaBank K.DatabaseBank self.new) }
+        ensures { Deliver (state B.Broadcast K.ReplicaBank K.DatabaseBank.own self.old) server result (state B.Broadcast K.ReplicaBank K.DatabaseBank.own self.new) }
     {
         let Ok(found) = self.find(server) else {
             return Err(Refusal::NoServer);
@@ -103,7 +103,7 @@ impl<B: Broadcast, K: DatabaseBank> Ensemble<B, K> {
     ///
     /// Refused by 1 and 2.
     pub fn stop(&mut self, server: u8) -> Result<(), Refusal>
-        ensures { Stop (state B.Broadcast K.ReplicaBank K.DatabaseBank self.old) server result (state B.Broadcast K.ReplicaBank K.DatabaseBank self.new) }
+        ensures { Stop (state B.Broadcast K.ReplicaBank K.DatabaseBank.own self.old) server result (state B.Broadcast K.ReplicaBank K.DatabaseBank.own self.new) }
     {
         let Ok(found) = self.find(server) else {
             return Err(Refusal::NoServer);
@@ -118,7 +118,7 @@ impl<B: Broadcast, K: DatabaseBank> Ensemble<B, K> {
     ///
     /// Refused by 1 and 3.
     pub fn start(&mut self, server: u8) -> Result<(), Refusal>
-        ensures { Start (state B.Broadcast K.ReplicaBank K.DatabaseBank self.old) server result (state B.Broadcast K.ReplicaBank K.DatabaseBank self.new) }
+        ensures { Start (state B.Broadcast K.ReplicaBank K.DatabaseBank.own self.old) server result (state B.Broadcast K.ReplicaBank K.DatabaseBank.own self.new) }
     {
         let Ok(found) = self.find(server) else {
             return Err(Refusal::NoServer);

@@ -18,7 +18,7 @@ impl<B: Broadcast, K: DatabaseBank> Ensemble<B, K> {
     ///
     /// Refused by 1.
     pub fn running(&self, server: u8) -> Result<bool, Refusal>
-        ensures { TellsServer (state B.Broadcast K.ReplicaBank K.DatabaseBank self.now) server (λ v. v.running) result }
+        ensures { TellsServer (state B.Broadcast K.ReplicaBank K.DatabaseBank.own self.now) server (λ v. v.running) result }
     {
         let asked = self.asked(server)?;
         Ok(asked.running())
@@ -28,7 +28,7 @@ impl<B: Broadcast, K: DatabaseBank> Ensemble<B, K> {
     ///
     /// Refused by 1.
     pub fn epoch(&self, server: u8) -> Result<u64, Refusal>
-        ensures { TellsServer (state B.Broadcast K.ReplicaBank K.DatabaseBank self.now) server (λ v. v.epoch) result }
+        ensures { TellsServer (state B.Broadcast K.ReplicaBank K.DatabaseBank.own self.now) server (λ v. v.epoch) result }
     {
         let asked = self.asked(server)?;
         Ok(asked.epoch())
@@ -38,7 +38,7 @@ impl<B: Broadcast, K: DatabaseBank> Ensemble<B, K> {
     ///
     /// Refused by 1.
     pub fn delivered(&self, server: u8) -> Result<u64, Refusal>
-        ensures { TellsServer (state B.Broadcast K.ReplicaBank K.DatabaseBank self.now) server (λ v. v.delivered) result }
+        ensures { TellsServer (state B.Broadcast K.ReplicaBank K.DatabaseBank.own self.now) server (λ v. v.delivered) result }
     {
         let asked = self.asked(server)?;
         Ok(asked.delivered())
@@ -48,7 +48,7 @@ impl<B: Broadcast, K: DatabaseBank> Ensemble<B, K> {
     ///
     /// Refused by 1.
     pub fn mark(&self, server: u8) -> Result<u64, Refusal>
-        ensures { TellsServer (state B.Broadcast K.ReplicaBank K.DatabaseBank self.now) server (λ v. v.db.mark) result }
+        ensures { TellsServer (state B.Broadcast K.ReplicaBank K.DatabaseBank.own self.now) server (λ v. v.db.mark) result }
     {
         let place = self.home(server)?;
         Ok(self.bank.mark(place))
@@ -58,7 +58,7 @@ impl<B: Broadcast, K: DatabaseBank> Ensemble<B, K> {
     ///
     /// Refused by 1 and 5.
     pub fn cell(&self, server: u8, cell: u64) -> Result<u64, Refusal>
-        ensures { TellsCell (state B.Broadcast K.ReplicaBank K.DatabaseBank self.now) server cell result }
+        ensures { TellsCell (state B.Broadcast K.ReplicaBank K.DatabaseBank.own self.now) server cell result }
     {
         let place = self.place(server)?;
         match self.bank.cell(place as u64, cell) {
@@ -71,7 +71,7 @@ impl<B: Broadcast, K: DatabaseBank> Ensemble<B, K> {
     ///
     /// Refused by 1, 4 and 10.
     pub fn transaction_state(&self, id: TransactionId) -> Result<State, Refusal>
-        ensures { TellsTransaction (state B.Broadcast K.ReplicaBank K.DatabaseBank self.now) id.server id.client id.job result }
+        ensures { TellsTransaction (state B.Broadcast K.ReplicaBank K.DatabaseBank.own self.now) id.server id.client id.job result }
     {
         let asked = self.asked(id.server)?;
         if id.client > LAST_CLIENT {
@@ -85,21 +85,21 @@ impl<B: Broadcast, K: DatabaseBank> Ensemble<B, K> {
 
     /// How many messages are ordered.
     pub fn ordered(&self) -> u64
-        ensures { result ≡ length (state B.Broadcast K.ReplicaBank K.DatabaseBank self.now).log }
+        ensures { result ≡ length (state B.Broadcast K.ReplicaBank K.DatabaseBank.own self.now).log }
     {
         self.broadcast.ordered_count()
     }
 
     /// How many messages wait.
     pub fn waiting(&self) -> u64
-        ensures { result ≡ length (state B.Broadcast K.ReplicaBank K.DatabaseBank self.now).waiting }
+        ensures { result ≡ length (state B.Broadcast K.ReplicaBank K.DatabaseBank.own self.now).waiting }
     {
         self.broadcast.waiting_count()
     }
 
     /// How many messages were sent.
     pub fn sent(&self) -> u64
-        ensures { result ≡ (state B.Broadcast K.ReplicaBank K.DatabaseBank self.now).sent }
+        ensures { result ≡ (state B.Broadcast K.ReplicaBank K.DatabaseBank.own self.now).sent }
     {
         self.sent
     }
@@ -108,7 +108,7 @@ impl<B: Broadcast, K: DatabaseBank> Ensemble<B, K> {
     ///
     /// Refused by 17.
     pub fn message(&self, position: u64) -> Result<&Message, Refusal>
-        ensures { TellsMessage (state B.Broadcast K.ReplicaBank K.DatabaseBank self.now) position result }
+        ensures { TellsMessage (state B.Broadcast K.ReplicaBank K.DatabaseBank.own self.now) position result }
     {
         match self.broadcast.message_at(position) {
             Ok(message) => Ok(message),

@@ -24,7 +24,7 @@ impl<B: Broadcast, K: DatabaseBank> Ensemble<B, K> {
     ///
     /// Refused where there is no such server.
     pub(crate) fn place(&self, server: u8) -> Result<usize, Refusal>
-        ensures { Place (state B.Broadcast K.ReplicaBank K.DatabaseBank self.now) server result }
+        ensures { Place (state B.Broadcast K.ReplicaBank K.DatabaseBank.own self.now) server result }
     {
         if server == 0 || server > self.count.get() {
             return Err(Refusal::NoServer);
@@ -35,7 +35,7 @@ impl<B: Broadcast, K: DatabaseBank> Ensemble<B, K> {
     ///
     /// Refused where there is no such server.
     pub(crate) fn find(&self, server: u8) -> Result<(usize, Server), Refusal>
-        ensures { Finds (state B.Broadcast K.ReplicaBank K.DatabaseBank self.now) self.now.servers.all server result }
+        ensures { Finds (state B.Broadcast K.ReplicaBank K.DatabaseBank.own self.now) self.now.servers.all server result }
     {
         let Ok(place) = self.place(server) else {
             return Err(Refusal::NoServer);
@@ -47,7 +47,7 @@ impl<B: Broadcast, K: DatabaseBank> Ensemble<B, K> {
     ///
     /// Refused where there is no such server.
     pub(crate) fn asked(&self, server: u8) -> Result<Server, Refusal>
-        ensures { Asked (state B.Broadcast K.ReplicaBank K.DatabaseBank self.now) server result }
+        ensures { Asked (state B.Broadcast K.ReplicaBank K.DatabaseBank.own self.now) server result }
     {
         let Ok(found) = self.find(server) else {
             return Err(Refusal::NoServer);
@@ -60,7 +60,7 @@ impl<B: Broadcast, K: DatabaseBank> Ensemble<B, K> {
     ///
     /// Refused where there is no such server.
     pub(crate) fn home(&self, server: u8) -> Result<u64, Refusal>
-        ensures { Home (state B.Broadcast K.ReplicaBank K.DatabaseBank self.now) (K.ReplicaBank.meanings self.now.bank) server result }
+        ensures { Home (state B.Broadcast K.ReplicaBank K.DatabaseBank.own self.now) (K.ReplicaBank.meanings self.now.bank) server result }
     {
         let Ok(place) = self.place(server) else {
             return Err(Refusal::NoServer);

@@ -21,7 +21,7 @@ impl<B: Broadcast, K: DatabaseBank> Ensemble<B, K> {
     ///
     /// Refused where the number of servers is 0, above 8, or above the number of databases.
     pub fn new(mut broadcast: B, mut bank: K, servers: u64) -> Result<Ensemble<B, K>, Unmade<B, K>>
-        ensures { Makes B.Broadcast K.ReplicaBank K.DatabaseBank broadcast bank servers result }
+        ensures { Makes B.Broadcast K.ReplicaBank K.DatabaseBank.own broadcast bank servers result }
     {
         let Some(count) = ServerCount::new(servers) else {
             return Err(Unmade { broadcast, bank });

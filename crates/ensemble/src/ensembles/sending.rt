@@ -14,7 +14,7 @@ impl<B: Broadcast, K: DatabaseBank> Ensemble<B, K> {
     ///
     /// Refused by 1, 2, 4, 10, 11 and 14.
     pub fn commit(&mut self, id: TransactionId) -> Result<(), Refusal>
-        ensures { Commit id.client id.job (state B.Broadcast K.ReplicaBank K.DatabaseBank self.old) id.server result (state B.Broadcast K.ReplicaBank K.DatabaseBank self.new) }
+        ensures { Commit id.client id.job (state B.Broadcast K.ReplicaBank K.DatabaseBank.own self.old) id.server result (state B.Broadcast K.ReplicaBank K.DatabaseBank.own self.new) }
     {
         let Ok(found) = self.find(id.server) else {
             return Err(Refusal::NoServer);
@@ -37,7 +37,7 @@ impl<B: Broadcast, K: DatabaseBank> Ensemble<B, K> {
     ///
     /// Refused by 1, 2 and 14.
     pub fn suspect(&mut self, server: u8) -> Result<(), Refusal>
-        ensures { Suspect (state B.Broadcast K.ReplicaBank K.DatabaseBank self.old) server result (state B.Broadcast K.ReplicaBank K.DatabaseBank self.new) }
+        ensures { Suspect (state B.Broadcast K.ReplicaBank K.DatabaseBank.own self.old) server result (state B.Broadcast K.ReplicaBank K.DatabaseBank.own self.new) }
     {
         let Ok(found) = self.find(server) else {
             return Err(Refusal::NoServer);
@@ -55,7 +55,7 @@ impl<B: Broadcast, K: DatabaseBank> Ensemble<B, K> {
     ///
     /// Refused by 15.
     pub fn order(&mut self) -> Result<u64, Refusal>
-        ensures { Order (state B.Broadcast K.ReplicaBank K.DatabaseBank self.old) result (state B.Broadcast K.ReplicaBank K.DatabaseBank self.new) }
+        ensures { Order (state B.Broadcast K.ReplicaBank K.DatabaseBank.own self.old) result (state B.Broadcast K.ReplicaBank K.DatabaseBank.own self.new) }
     {
         let Ok(position) = self.broadcast.order() else {
             return Err(Refusal::NothingWaits);

@@ -40,15 +40,15 @@ impl Notes {
     }
 
     /// These notes with one more statement and its result; `None` exactly where there are six already.
-    pub fn with(&self, statement: Statement, res: u64) -> Option<Notes>
-        ensures { Longer self.now statement res result }
+    pub fn with(&self, statement: Statement, answer: u64) -> Option<Notes>
+        ensures { Longer self.now statement answer result }
     {
         if self.count >= STATEMENTS {
             return None;
         }
         let mut longer = *self;
         longer.statements[self.count] = statement;
-        longer.results[self.count] = res;
+        longer.results[self.count] = answer;
         longer.count = self.count + 1;
         Some(longer)
     }

@@ -8,4 +8,4 @@ returns c =
     let few : n.count < 6 = omega arith in
     let s : n.count < length n.statements = omega (arith, n.statements_room) in
     let r : n.count < length n.results = omega (arith, n.results_room) in
-    (simp length-take (omega arith), take_more_set n.statements n.count c.args.statement s, take_more_set n.results n.count c.args.res r)
+    (simp length-take (omega arith), take_more_set n.statements n.count c.args.statement s, take_more_set n.results n.count c.args.answer r)
