@@ -68,7 +68,8 @@ fn the_lines_take_128_messages_and_no_more_until_they_are_cleared(
 fn lines_take_turns_and_empty_ones_are_passed_over(rt: HostRuntime) -> Result<(), Fail> {
     let mut lines = InTurn::new(rt.alloc())?;
     offer_from(&mut lines, &[1, 1, 2, 8, 0])?;
-    check_order(&rt, &mut lines, &[4, 1, 3, 5, 2]).note("senders 8 and 0 share line 0")?;
+    // senders 8 and 0 share line 0
+    check_order(&rt, &mut lines, &[4, 1, 3, 5, 2])?;
     assert_eq!(rt; lines.waiting_count(), 0);
     Ok(())
 }
