@@ -1,5 +1,5 @@
 -- What follows the words of a target.
-use Rattle.std.proofs.Common.{◌≡◌, ℕ, List, ◌∷◌, ◌++◌}
+use Rattle.std.proofs.Common.{◌≡◌, ℕ, List, ◌++◌}
 use Rattle.commands.specs.declared.shapes.Target.{Target}
 use Rattle.commands.specs.Words.{target_words, place_words}
 

@@ -1,5 +1,5 @@
 -- A line is read as the command that is written so.
-use Rattle.std.proofs.Common.{◌≡◌, ℕ, ◌+◌, ◌*◌, ◌^◌, ◌<◌, ◌≤◌, List, [], ◌∷◌, ◌++◌, Some, None, decimal, Option, sym, refl, ap, ◌∙◌, subst, arith}
+use Rattle.std.proofs.Common.{◌≡◌, ℕ, ◌^◌, ◌<◌, List, [], ◌∷◌, ◌++◌, Some, None, decimal, Option, sym, ap, ◌∙◌, subst, arith}
 use Rattle.lexing.specs.Parts.{parts, joined, Free, AllFree}
 use Rattle.lexing.proofs.Cuts.{parts_joined, joined_parts, joined_free}
 use Rattle.lexing.proofs.Digits.{number_free, name_free}
@@ -8,7 +8,7 @@ use Rattle.commands.specs.declared.openings.Opening.{Opening}
 use Rattle.commands.specs.declared.shapes.Target.{Target}
 use Rattle.commands.specs.declared.shapes.Command.{Command}
 use Rattle.commands.specs.declared.shapes.Command.TheVariants.{Order, Cell, Server, Job, Read, Store, Member}
-use Rattle.commands.specs.Words.{opening_text, opens_with, target_words, place_words, further_words, words_of, Aimed, Proper}
+use Rattle.commands.specs.Words.{opening_text, opens_with, target_words, further_words, words_of, Aimed, Proper}
 use Rattle.commands.specs.Lines.{written, Reads, Unspelt, Spelt}
 use Rattle.commands.proofs.FirstWords.{same_opening, opening_free}
 

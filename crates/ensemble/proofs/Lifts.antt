@@ -10,7 +10,6 @@ use Rattle.broadcast.specs.Bags.{nth}
 use Rattle.pronto.specs.Servers.{Site, new_site}
 use Rattle.pronto.specs.States.{State, no_server, with_servers, at_server, At}
 use Rattle.pronto.specs.declared.faults.ServerFault.{ServerFault}
-use Rattle.pronto.specs.declared.refusals.Refusal.{Refusal}
 use Rattle.pronto.specs.declared.refusals.Refusal.TheVariants as refusal
 use Rattle.server.specs.declared.servers.Server.{Server}
 use Rattle.server.specs.Shown.{shown}

@@ -1,5 +1,5 @@
 -- What the parts of a text are.
-use Rattle.std.proofs.Common.{◌≡◌, ℕ, zero, suc, ◌+◌, ◌-◌, ◌<◌, ◌≤◌, Bool, true, false, cond, eqb, List, [], ◌∷◌, ◌++◌, length, get_or, take, drop, sym, refl, ap, ◌∙◌, subst, le_refl, add-one, arith, take-append-drop, length-take-le, drop-cons, get_or-take, eq-eqb, true-eqb, false-eqb}
+use Rattle.std.proofs.Common.{◌≡◌, ℕ, suc, ◌+◌, ◌-◌, ◌<◌, true, false, cond, eqb, List, [], ◌∷◌, ◌++◌, length, get_or, take, drop, sym, refl, ap, ◌∙◌, subst, le_refl, add-one, arith, take-append-drop, length-take-le, drop-cons, get_or-take, eq-eqb, true-eqb}
 use Rattle.std.proofs.lemmas.Slice.{between_to_end}
 use native.Mathlib.Nat.{sub-zero}
 use Rattle.lexing.specs.Parts.{parts, onto, joined, Free, AllFree}

@@ -1,5 +1,5 @@
 -- A text cut at each byte of one kind: lines at 10, words at 32.
-use Rattle.std.specs.Prelude.{◌≡◌, ℕ, cond, List, [], ◌∷◌, ◌++◌, ◌==◌, ◌≢◌}
+use Rattle.std.specs.Prelude.{ℕ, cond, List, [], ◌∷◌, ◌++◌, ◌==◌, ◌≢◌}
 
 -- A byte put in front of the first part.
 abbrev pub onto : ℕ → List (List ℕ) → List (List ℕ)

@@ -12,9 +12,7 @@ use Rattle.pronto.specs.Servers.{Site}
 use Rattle.pronto.specs.States.{State, new_state}
 use Rattle.pronto.specs.Steps.{LeadsTo}
 use Rattle.pronto.specs.Histories.{History, Standing, standing, told, statements_told, results_told, commit_of, all_sent, is_commit, is_suspect, how_many}
-use Rattle.pronto.specs.declared.faults.ServerFault.{ServerFault}
 use Rattle.pronto.specs.declared.faults.ServerFault.TheVariants as fault
-use Rattle.pronto.specs.declared.refusals.Refusal.{Refusal}
 use Rattle.pronto.specs.declared.refusals.Refusal.TheVariants as refusal
 use Rattle.pronto.specs.declared.acts.TransactionId.{TransactionId}
 use Rattle.pronto.specs.declared.acts.Act.{Act}

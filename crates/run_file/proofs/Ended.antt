@@ -1,5 +1,5 @@
 -- Lines that are each ended by byte 10: a text has them in one way only.
-use Rattle.std.proofs.Common.{◌≡◌, ℕ, zero, suc, ◌+◌, ◌<◌, ◌≤◌, List, [], ◌∷◌, ◌++◌, length, sym, refl, ap, ◌∙◌, arith}
+use Rattle.std.proofs.Common.{◌≡◌, ℕ, ◌<◌, List, [], ◌∷◌, ◌++◌, length, sym, refl, ap, ◌∙◌, arith}
 use Rattle.lexing.specs.Parts.{parts, joined, Free, AllFree}
 use Rattle.lexing.proofs.Cuts.{parts_cut, joined_parts}
 use Rattle.lexing.proofs.Heads.{head_same, tail_same}

@@ -1,21 +1,20 @@
 -- Which line may come after a right front; where none does, the front is the longest.
-use Rattle.std.proofs.Common.{◌≡◌, ℕ, zero, suc, ◌+◌, ◌^◌, ◌<◌, ◌≤◌, ◌⊎◌, List, [], ◌∷◌, ◌++◌, length, get_or, decimal, sym, refl, ap, ◌∙◌, subst, inl, inr, ⊎_elim, arith, length-append}
+use Rattle.std.proofs.Common.{◌≡◌, ℕ, suc, ◌^◌, ◌<◌, ◌⊎◌, List, [], ◌∷◌, ◌++◌, length, decimal, sym, refl, ap, ◌∙◌, subst, inl, inr, ⊎_elim, arith, length-append}
 use lib.ListN.{get_or-append}
 use lib.Seq.{get_or-append_seam}
 use Rattle.std.proofs.str.Laws.{order}
 use Rattle.lexing.specs.Forms as forms
-use Rattle.lexing.specs.Parts.{parts, joined, Free, AllFree}
+use Rattle.lexing.specs.Parts.{parts, Free, AllFree}
 use Rattle.lexing.proofs.Cuts.{parts_joined, joined_free}
 use Rattle.lexing.proofs.Digits.{number_free, name_free, no_letter, only_one}
 use Rattle.lexing.proofs.Heads.{tail_same}
-use Rattle.commands.specs.declared.shapes.Command.{Command}
 use Rattle.commands.proofs.RoundTrip.{line_free}
 use Rattle.run_file.specs.declared.sections.Section.{Section}
 use Rattle.run_file.specs.declared.sections.Section.TheVariants.{Names, Steps}
 use Rattle.run_file.specs.Texts.{text_at}
-use Rattle.run_file.specs.Form.{ended, section_text, head, Counts, Apart, AllNames, StepLine, StepLines, Front, nothing, in_names, in_steps, lines_in, Right, Begins}
+use Rattle.run_file.specs.Form.{section_text, head, Counts, Apart, AllNames, StepLine, StepLines, Front, nothing, in_names, in_steps, lines_in, Right, Begins}
 use Rattle.run_file.specs.Outcomes.{Longest}
-use Rattle.run_file.proofs.Ended.{Lines, head_is, tail_is, More, longer, Sooner, parted_sooner, parted_same, free_append}
+use Rattle.run_file.proofs.Ended.{Lines, head_is, tail_is, longer, parted_sooner, parted_same, free_append}
 
 -- a section's word
 pub section_free : (b : ℕ) → b < 97 → (s : Section) → Free b (section_text s)

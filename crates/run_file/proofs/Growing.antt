@@ -1,11 +1,11 @@
 -- How the names and lines that were read grow by one, and what stops them.
-use Rattle.std.proofs.Common.{◌≡◌, ℕ, suc, ◌+◌, ◌<◌, ◌≤◌, List, [], ◌∷◌, ◌++◌, map, length, Some, None, Option, sym, refl, ap, ◌∙◌, subst, ⊎_elim, arith, length-append}
+use Rattle.std.proofs.Common.{◌≡◌, ℕ, ◌+◌, ◌<◌, ◌≤◌, List, [], ◌∷◌, ◌++◌, map, length, Some, None, Option, sym, refl, ap, ◌∙◌, subst, ⊎_elim, arith, length-append}
 use lib.ListN.{get_or-append}
 use lib.Seq.{get_or-append_seam}
 use Rattle.std.proofs.str.Laws.{order}
 use Rattle.lexing.specs.Forms as forms
 use Rattle.lexing.specs.Parts.{Free}
-use Rattle.run_file.specs.Texts.{text_of, texts, text_at}
+use Rattle.run_file.specs.Texts.{text_at}
 use Rattle.lexing.specs.Parts.{parts}
 use Rattle.commands.specs.declared.shapes.Command.{Command}
 use Rattle.commands.specs.declared.shapes.Command.TheVariants.{Order, Cell, Server, Job, Read, Store, Member}

@@ -1,5 +1,5 @@
 -- The longest right front of a text is one, and so is its fault.
-use Rattle.std.proofs.Common.{◌≡◌, ℕ, ◌+◌, ◌<◌, ◌≤◌, ◌⊎◌, List, [], ◌∷◌, ◌++◌, map, length, sym, refl, ap, ◌∙◌, subst, inl, inr, ⊎_elim, arith, length-append}
+use Rattle.std.proofs.Common.{◌≡◌, ℕ, ◌<◌, ◌≤◌, ◌⊎◌, List, [], ◌∷◌, map, length, sym, refl, ap, ◌∙◌, subst, inl, inr, ⊎_elim, arith, length-append}
 use Rattle.std.proofs.str.Laws.{order}
 use Rattle.std.proofs.lemmas.List.{length-map}
 use Rattle.run_file.specs.declared.sections.Section.TheVariants.{Names, Steps}
@@ -7,7 +7,7 @@ use Rattle.run_file.specs.declared.steps.Line.{Line}
 use Rattle.run_file.specs.declared.faults.Why.{Why}
 use Rattle.run_file.specs.declared.faults.Why.TheVariants as why
 use Rattle.run_file.specs.Form.{ended, head, Front, nothing, in_names, in_steps, lines_in, Right, Begins}
-use Rattle.run_file.specs.Outcomes.{own, Accepted, CommandNext, Wrong, Longest, FaultyLine, Faulty}
+use Rattle.run_file.specs.Outcomes.{own, Accepted, CommandNext, Wrong, FaultyLine, Faulty}
 use Rattle.run_file.specs.Unique.{OneFault, NoFault}
 use Rattle.run_file.proofs.Ended.{Lines, head_is, tail_is, longer, same_lines, parted_same}
 use Rattle.run_file.proofs.Fronts.{head_count, front_free}

@@ -1,22 +1,20 @@
 -- A step line says one step.
-use Rattle.std.proofs.Common.{◌≡◌, ℕ, ◌+◌, ◌^◌, ◌<◌, ◌≤◌, List, [], ◌∷◌, ◌++◌, map, length, get_or, Some, None, decimal, Option, sym, refl, ap, ◌∙◌, subst, ⊎_elim, arith}
+use Rattle.std.proofs.Common.{◌≡◌, ℕ, ◌^◌, ◌<◌, ◌≤◌, List, [], ◌∷◌, map, length, get_or, Some, None, decimal, Option, sym, refl, ap, ◌∙◌, subst, ⊎_elim, arith}
 use Rattle.std.specs.Str.Parse.{digits_value}
 use Rattle.std.proofs.str.Laws.{order}
 use Rattle.std.proofs.lemmas.Fmt.{decimal_is_IsNumeral}
-use Rattle.lexing.proofs.Heads.{head_same, tail_same}
 use Rattle.pronto.specs.declared.acts.Act.TheVariants as act
 use Rattle.commands.specs.declared.openings.Opening.{Opening}
 use Rattle.commands.specs.declared.openings.Opening.TheVariants as opening
 use Rattle.commands.specs.declared.shapes.Target.{Target}
 use Rattle.commands.specs.declared.shapes.Command.{Command}
 use Rattle.commands.specs.declared.shapes.Command.TheVariants.{Order, Cell, Server, Job, Read, Store, Member}
-use Rattle.commands.specs.Words.{opening_text, opens_with, target_words, further_words, words_of, Aimed, Proper}
+use Rattle.commands.specs.Words.{opens_with, further_words, Aimed, Proper}
 use Rattle.commands.specs.Lines.{written}
 use Rattle.commands.proofs.FirstWords.{same_opening}
 use Rattle.run_file.specs.declared.steps.Step.{Step}
 use Rattle.run_file.specs.declared.steps.Step.TheVariants as step
 use Rattle.run_file.specs.declared.steps.Line.{Line}
-use Rattle.run_file.specs.Texts.{text_at}
 use Rattle.run_file.specs.Steps.{act_of_server, act_of_job, reading, storing, changing, step_at, name_in, Numbered}
 use Rattle.run_file.specs.Form.{AllNames}
 use Rattle.run_file.specs.Outcomes.{own, Says, AllSay}

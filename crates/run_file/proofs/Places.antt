@@ -1,5 +1,5 @@
 -- What stands at a place of a list.
-use Rattle.std.proofs.Common.{◌≡◌, ℕ, zero, suc, ◌<◌, ◌≤◌, true, leb, List, [], ◌∷◌, map, length, get_or, Some, None, sym, refl, ap, ◌∙◌, subst, arith, Bor, leb-true}
+use Rattle.std.proofs.Common.{◌≡◌, ℕ, zero, suc, ◌<◌, ◌≤◌, true, List, [], ◌∷◌, length, get_or, Some, sym, refl, ap, subst, arith, Bor, leb-true}
 use Rattle.std.proofs.lemmas.Bool.{and_parts}
 use Rattle.broadcast.specs.Bags.{nth}
 use Rattle.run_file.specs.declared.steps.Line.{Line}

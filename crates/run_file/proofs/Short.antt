@@ -1,10 +1,9 @@
 -- A step's own line is short, by its words.
-use Rattle.std.proofs.Common.{◌≡◌, ℕ, ◌+◌, ◌^◌, ◌<◌, ◌≤◌, Bool, true, leb, List, [], ◌∷◌, ◌++◌, length, decimal, sym, refl, ap, ◌∙◌, subst, ⊎_elim, arith, length-append, le-leb, leb-true}
+use Rattle.std.proofs.Common.{◌≡◌, ℕ, ◌+◌, ◌≤◌, true, leb, List, [], ◌∷◌, ◌++◌, length, decimal, refl, ap, ◌∙◌, ⊎_elim, arith, length-append, le-leb, leb-true}
 use Rattle.std.proofs.str.Laws.{order}
 use Rattle.std.proofs.lemmas.Fmt.{length-decimal-le}
 use Rattle.std.proofs.lemmas.Bool.{and_from}
 use Rattle.lexing.specs.Parts.{joined}
-use Rattle.commands.specs.declared.openings.ServerVerb.{ServerVerb}
 use Rattle.commands.specs.declared.openings.ServerVerb.TheVariants.{Suspect, Deliver, Stop, Start}
 use Rattle.commands.specs.declared.openings.JobVerb.TheVariants.{Begin, Commit, Abort}
 use Rattle.commands.specs.declared.openings.Opening.{Opening}
@@ -12,8 +11,7 @@ use Rattle.commands.specs.declared.openings.Opening.TheVariants as opening
 use Rattle.commands.specs.declared.shapes.Target.{Target}
 use Rattle.commands.specs.declared.shapes.Command.{Command}
 use Rattle.commands.specs.declared.shapes.Command.TheVariants.{Order, Cell, Server, Job, Read, Store, Member}
-use Rattle.commands.specs.Words.{opening_text, opens_with, target_words, place_words, further_words, words_of, Aimed, Proper}
-use Rattle.commands.specs.Lines.{written}
+use Rattle.commands.specs.Words.{opening_text, opens_with, target_words, further_words, Aimed, Proper}
 use Rattle.commands.proofs.FirstWords.{each}
 use Rattle.run_file.specs.declared.steps.Step.{Step}
 use Rattle.run_file.specs.declared.steps.Line.{Line}

@@ -1,14 +1,14 @@
 -- From what reading a section comes to, what reading the file comes to.
-use Rattle.std.proofs.Common.{◌≡◌, ℕ, ◌+◌, ◌<◌, ◌≤◌, ◌⊎◌, List, [], ◌∷◌, ◌++◌, map, length, Ok, Err, Result, sym, refl, ap, ◌∙◌, subst, inl, inr, ⊎_elim, arith, length-append}
+use Rattle.std.proofs.Common.{◌≡◌, ℕ, ◌+◌, ◌≤◌, List, [], ◌∷◌, ◌++◌, map, length, Ok, Err, Result, sym, refl, ap, ◌∙◌, subst, ⊎_elim, arith, length-append}
 use Rattle.std.proofs.lemmas.List.{length-map}
 use Rattle.run_file.specs.declared.sections.Section.TheVariants.{Names, Steps}
 use Rattle.run_file.specs.declared.steps.Line.{Line}
 use Rattle.run_file.specs.declared.faults.Why.{Why}
 use Rattle.run_file.specs.declared.faults.Why.TheVariants as why
 use Rattle.run_file.specs.declared.faults.FileFault.{FileFault}
-use Rattle.run_file.specs.Form.{ended, head, Counts, AllNames, StepLines, Front, nothing, in_names, in_steps, lines_in, Right, Begins}
-use Rattle.run_file.specs.Outcomes.{own, AllSay, Accepted, Wrong, FaultyLine, Faulty}
-use Rattle.run_file.specs.Sections.{NoLine, NamesStop, StepsStop, StepsRead, HeadLine, FileRead}
+use Rattle.run_file.specs.Form.{ended, head, Counts, AllNames, Front, nothing, in_names, in_steps, lines_in}
+use Rattle.run_file.specs.Outcomes.{own, Wrong, FaultyLine, Faulty}
+use Rattle.run_file.specs.Sections.{NoLine, NamesStop, StepsRead, HeadLine, FileRead}
 use Rattle.run_file.proofs.Ended.{Lines, ended_append}
 use Rattle.run_file.proofs.Fronts.{longest_front}
 use Rattle.run_file.proofs.Growing.{say_lines}

@@ -1,5 +1,5 @@
 -- The form of a run file: which lines stand in it, one after another.
-use Rattle.std.specs.Prelude.{◌≡◌, ℕ, ◌+◌, ◌<◌, ◌≤◌, List, [], ◌∷◌, ◌++◌, length, codes, decimal, ◌≢◌}
+use Rattle.std.specs.Prelude.{◌≡◌, ℕ, ◌<◌, ◌≤◌, List, [], ◌∷◌, ◌++◌, length, codes, decimal, ◌≢◌}
 use Rattle.lexing.specs.Forms.{Name}
 use Rattle.lexing.specs.Parts.{joined}
 use Rattle.commands.specs.declared.shapes.Command.{Command}

@@ -7,7 +7,6 @@ use Rattle.run_file.specs.declared.steps.Step.{Step}
 use Rattle.run_file.specs.declared.steps.Line.{Line}
 use Rattle.run_file.specs.declared.faults.Why.{Why}
 use Rattle.run_file.specs.declared.faults.Why.TheVariants as why
-use Rattle.run_file.specs.declared.faults.FileFault.{FileFault}
 use Rattle.run_file.specs.declared.faults.Unread.{Unread}
 use Rattle.run_file.specs.declared.faults.Unread.TheVariants as unread
 use Rattle.run_file.specs.Steps.{step_at, name_in, Numbered}

@@ -3,7 +3,6 @@ use Rattle.std.specs.Prelude.{◌≡◌, ℕ, ◌+◌, ◌<◌, ◌≤◌, List,
 use Rattle.std.specs.Borrow.{Bor}
 use Rattle.lexing.specs.Forms.{Name}
 use Rattle.run_file.specs.declared.steps.Line.{Line}
-use Rattle.run_file.specs.declared.faults.Why.{Why}
 use Rattle.run_file.specs.declared.faults.Why.TheVariants as why
 use Rattle.run_file.specs.declared.faults.FileFault.{FileFault}
 use Rattle.run_file.specs.declared.sections.Section.{Section}

@@ -1,5 +1,5 @@
 -- Every line fits 96 bytes: only a deliver, whose own line is short, answers a judgement.
-use Rattle.std.proofs.Common.{◌≡◌, ℕ, ◌+◌, ◌≤◌, Ok, Err, Result, refl, ap, ◌∙◌, arith}
+use Rattle.std.proofs.Common.{◌≡◌, ℕ, ◌+◌, ◌≤◌, Ok, Err, Result, ap, arith}
 use Rattle.pronto.specs.States.{State}
 use Rattle.pronto.specs.Steps as acts
 use Rattle.pronto.specs.declared.refusals.Refusal.{Refusal}

@@ -1,4 +1,4 @@
-use Rattle.std.proofs.Common.{sym, ap, ◌∙◌, arith}
+use Rattle.std.proofs.Common.{ap, ◌∙◌, arith}
 use Rattle.lexing.specs.Parts.{parts}
 use Rattle.lexing.proofs.Cuts.{cut_at, parts_cut, parts_free, free_by_index}
 use Rattle.lexing.proofs.cutting.cut.Goals as goal

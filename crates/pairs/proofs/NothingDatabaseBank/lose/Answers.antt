@@ -1,4 +1,3 @@
-use Rattle.std.proofs.Common.{◌-◌}
 use Rattle.pairs.proofs.Ahead.{upd_none}
 use Rattle.pairs.proofs.NothingDatabaseBank.lose.Goals as goal
 

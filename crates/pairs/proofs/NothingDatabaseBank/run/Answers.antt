@@ -1,4 +1,4 @@
-use Rattle.std.proofs.Common.{◌-◌, refl}
+use Rattle.std.proofs.Common.{refl}
 use Rattle.replica.specs.Calls.{cleared}
 use Rattle.replica.specs.Refusals.{run_refusal}
 use Rattle.pairs.proofs.NothingDatabaseBank.run.Goals as goal

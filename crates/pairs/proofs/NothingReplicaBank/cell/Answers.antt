@@ -1,4 +1,4 @@
-use Rattle.std.proofs.Common.{◌-◌, rules}
+use Rattle.std.proofs.Common.{rules}
 use Rattle.replica.specs.Calls.{cleared}
 use Rattle.pairs.proofs.NothingReplicaBank.cell.Goals as goal
 

@@ -1,4 +1,4 @@
-use Rattle.std.proofs.Common.{◌-◌, refl}
+use Rattle.std.proofs.Common.{refl}
 use Rattle.replica.specs.Calls.{cleared}
 use Rattle.replica.specs.Refusals.{intake_refusal}
 use Rattle.pairs.proofs.Ahead.{out_none}

@@ -1,4 +1,4 @@
-use Rattle.std.proofs.Common.{◌-◌, sym, subst}
+use Rattle.std.proofs.Common.{sym, subst}
 use Rattle.replica.specs.Meanings.{Meaning}
 use Rattle.replica.specs.Refusals.{cell_refusal}
 use Rattle.replica.specs.Outcomes.{Shown}

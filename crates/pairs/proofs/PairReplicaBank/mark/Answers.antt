@@ -1,4 +1,4 @@
-use Rattle.std.proofs.Common.{◌-◌, sym, ap, ◌∙◌}
+use Rattle.std.proofs.Common.{sym, ap, ◌∙◌}
 use Rattle.pairs.proofs.Ahead.{at_first, at_rest}
 use Rattle.pairs.proofs.PairReplicaBank.mark.Goals as goal
 

@@ -2,7 +2,6 @@ use Rattle.std.proofs.Common.{◌≡◌, ℕ, sym, ap, ◌∙◌, subst}
 use Rattle.pronto.specs.declared.acts.Act.{Act}
 use Rattle.pronto.specs.declared.acts.TransactionId.{TransactionId}
 use Rattle.commands.specs.declared.shapes.Command.{Command}
-use Rattle.run_file.specs.declared.steps.Step.{Step}
 use Rattle.run_file.specs.declared.steps.Step.TheVariants as step
 use Rattle.run_file.specs.Texts.{texts}
 use Rattle.run_file.specs.Steps.{act_of_job, name_in, Numbered, step_at}

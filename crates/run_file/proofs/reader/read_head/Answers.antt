@@ -1,4 +1,4 @@
-use Rattle.std.proofs.Common.{◌≡◌, sym, refl, ◌∙◌, subst}
+use Rattle.std.proofs.Common.{sym, refl, subst}
 use Rattle.lexing.specs.Parts.{Free}
 use Rattle.run_file.specs.Sections.{HeadLine}
 use Rattle.run_file.proofs.Fronts.{head_free}

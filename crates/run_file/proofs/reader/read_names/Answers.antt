@@ -1,11 +1,9 @@
-use Rattle.std.proofs.Common.{◌≡◌, ℕ, ◌+◌, ◌<◌, List, [], ◌∷◌, ◌++◌, length, vec_items, sym, refl, ap, ◌∙◌, subst, arith, length-append, Bor}
+use Rattle.std.proofs.Common.{◌≡◌, ℕ, List, [], ◌∷◌, ◌++◌, length, vec_items, sym, refl, ap, ◌∙◌, subst, arith, length-append, Bor}
 use Rattle.std.proofs.lemmas.List.{length-map}
 use Rattle.lexing.specs.Forms as forms
 use Rattle.lexing.proofs.Digits.{name_free}
 use Rattle.run_file.specs.Texts.{text_of, texts}
 use Rattle.run_file.specs.Form.{ended, Apart, AllNames}
-use Rattle.run_file.specs.Sections.{NamesStop}
-use Rattle.run_file.specs.declared.faults.Why.TheVariants as why
 use Rattle.run_file.proofs.Growing.{map_more, ended_more, no_names, names_more, no_line, bad_line}
 use Rattle.run_file.proofs.reader.read_names.Goals as goal
 

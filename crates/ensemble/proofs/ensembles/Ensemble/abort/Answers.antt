@@ -1,4 +1,4 @@
-use Rattle.std.proofs.Common.{◌≡◌, ◌-◌, length}
+use Rattle.std.proofs.Common.{◌≡◌, length}
 use Rattle.pronto.specs.Refusing.{abort_why, abort_after}
 use Rattle.pronto.specs.Acts.{NothingTold}
 use Rattle.ensemble.proofs.Lifts.{acts_put}

@@ -1,7 +1,6 @@
 use Rattle.std.proofs.Common.{◌<◌, cond, ltb, length, Some, None, sym, ap, ◌∙◌, arith}
 use Rattle.replica.specs.Meanings.{Meaning}
 use Rattle.pronto.specs.declared.faults.ServerFault.TheVariants as fault
-use Rattle.pronto.specs.declared.refusals.Refusal.{Refusal}
 use Rattle.pronto.specs.declared.refusals.Refusal.TheVariants as refusal
 use Rattle.ensemble.specs.Whole.{state}
 use Rattle.ensemble.proofs.Lifts.{db_of}

@@ -1,4 +1,4 @@
-use Rattle.std.proofs.Common.{◌≡◌, ℕ, ◌-◌, length}
+use Rattle.std.proofs.Common.{◌≡◌, ℕ, length}
 use Rattle.journal.specs.declared.verdicts.Judgement.{Judgement}
 use Rattle.pronto.specs.Delivering.{deliver_why, deliver_after, Tells}
 use Rattle.ensemble.proofs.Lifts.{acts_put}

@@ -1,4 +1,4 @@
-use Rattle.std.proofs.Common.{◌-◌, ◌≤◌, ap, ◌∙◌, arith}
+use Rattle.std.proofs.Common.{◌≤◌, ap, ◌∙◌, arith}
 use Rattle.ensemble.specs.Whole.{whole}
 use Rattle.ensemble.proofs.Told.{new_whole}
 use Rattle.ensemble.proofs.ensembles.Ensemble.new.Goals as goal

@@ -1,4 +1,4 @@
-use Rattle.std.proofs.Common.{◌≡◌, ℕ, ◌-◌, length}
+use Rattle.std.proofs.Common.{◌≡◌, ℕ, length}
 use Rattle.pronto.specs.Refusing.{run_why, run_result, run_after}
 use Rattle.ensemble.proofs.Lifts.{acts_put}
 use Rattle.ensemble.proofs.ensembles.Ensemble.run.Goals as goal

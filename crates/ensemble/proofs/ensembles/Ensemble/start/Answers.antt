@@ -1,4 +1,4 @@
-use Rattle.std.proofs.Common.{◌≡◌, ℕ, ◌-◌, length, subst}
+use Rattle.std.proofs.Common.{◌≡◌, ℕ, length, subst}
 use Rattle.pronto.specs.Servers.{started}
 use Rattle.pronto.specs.Refusing.{first, start_table}
 use Rattle.pronto.specs.Acts.{NothingTold}

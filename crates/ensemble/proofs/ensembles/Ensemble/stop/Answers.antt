@@ -1,4 +1,4 @@
-use Rattle.std.proofs.Common.{◌≡◌, ◌-◌, length}
+use Rattle.std.proofs.Common.{◌≡◌, length}
 use Rattle.pronto.specs.Servers.{stopped}
 use Rattle.pronto.specs.Refusing.{first, running_table}
 use Rattle.pronto.specs.Acts.{NothingTold}

@@ -1,13 +1,12 @@
-use Rattle.std.proofs.Common.{◌≡◌, ◌≤◌, Bool, cond, ltb, Some, Option, sym, ap, ◌∙◌}
+use Rattle.std.proofs.Common.{cond, ltb, Some, sym, ap, ◌∙◌}
 use Rattle.std.proofs.lemmas.Bool.{cond-false, le-ltb}
 use Rattle.pronto.specs.Servers.{Site}
 use Rattle.pronto.specs.Refusing.{find}
 use Rattle.pronto.specs.declared.faults.ServerFault.TheVariants as fault
-use Rattle.pronto.specs.declared.refusals.Refusal.{Refusal}
 use Rattle.pronto.specs.declared.refusals.Refusal.TheVariants as refusal
 use Rattle.server.specs.Looking.{state_found}
 use Rattle.ensemble.specs.Whole.{state}
-use Rattle.ensemble.specs.Asking.{if_told, if_server}
+use Rattle.ensemble.specs.Asking.{if_told}
 use Rattle.ensemble.proofs.Told.{told_server}
 use Rattle.ensemble.proofs.ensembles.Ensemble.transaction_state.Goals as goal
 

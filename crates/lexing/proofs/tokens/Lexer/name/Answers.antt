@@ -1,4 +1,4 @@
-use Rattle.std.proofs.Common.{sym, subst, arith}
+use Rattle.std.proofs.Common.{subst}
 use Rattle.lexing.specs.Forms.{Writes}
 use Rattle.lexing.proofs.Digits.{no_letter}
 use Rattle.lexing.proofs.Heads.{head_same}

@@ -1,4 +1,4 @@
-use Rattle.std.proofs.Common.{◌≡◌, ◌<◌, ◌≤◌, length, vec_items, ap, ◌∙◌, subst, arith}
+use Rattle.std.proofs.Common.{◌≡◌, ◌<◌, ◌≤◌, length, vec_items, ap, ◌∙◌, arith}
 use Rattle.run_file.specs.Texts.{texts, text_at}
 use Rattle.run_file.proofs.Places.{text_read, text_past}
 use Rattle.run_file.proofs.files.RunFile.name.Goals as goal

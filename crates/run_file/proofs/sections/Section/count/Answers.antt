@@ -1,5 +1,5 @@
 -- A line that is a head has two words: the section's, and the count's.
-use Rattle.std.proofs.Common.{◌≡◌, ℕ, true, List, [], ◌∷◌, decimal, sym, ap, ◌∙◌, arith}
+use Rattle.std.proofs.Common.{◌≡◌, ℕ, List, [], ◌∷◌, decimal, sym, ap, ◌∙◌, arith}
 use Rattle.lexing.specs.Parts.{parts, joined}
 use Rattle.lexing.specs.Tokens.{left}
 use Rattle.lexing.proofs.Cuts.{joined_parts}
