@@ -145,7 +145,7 @@ module _ (d : InPlace) (long : length d.opens ≡ 8) (s : ℕ) (low : s < 8) whe
       let in_cells : c < length cells = omega arith in
       let in_formers : c < length formers = omega (arith, d.deep) in
       let new_cell : (k : ℕ) → k ≢ c → get_or cells' k 0 ≡ get_or cells k 0 = λ k n. get_or-set_other cells c k v 0 n in
-      let at-cell = get_or-set_same cells c v 0 in_cells in
+      let at_cell = get_or-set_same cells c v 0 in_cells in
       let target : Slot → Option Slot = λ k. Some (record { reads = k.reads; writes = put k.writes c true; own = put k.own c (Some v) }) in
       let q = shown_slot cells formers reads s in
       same_meaning (means cells' formers' opens reads d.mark) (written_into same_unit m s c v)
@@ -159,7 +159,7 @@ module _ (d : InPlace) (long : length d.opens ≡ 8) (s : ℕ) (low : s < 8) whe
       (eq-eqb s s refl ∙ sym (cond-true (eqb c c) true (q.writes c) (eq-eqb c c refl)))
       (λ k n. sym (cond-false (eqb k c) true (q.writes k) (ne_eqb k c n))))
       (at_place (λ k x. own_of s x (get_or cells' k 0) ≡ put q.own c (Some v) k) formers c f None in_formers
-      (cond-true (eqb s s) (Some (get_or cells' c 0)) None (eq-eqb s s refl) ∙ ap Some at-cell ∙ sym (cond-true (eqb c c) (Some v) (q.own c) (eq-eqb c c refl)))
+      (cond-true (eqb s s) (Some (get_or cells' c 0)) None (eq-eqb s s refl) ∙ ap Some at_cell ∙ sym (cond-true (eqb c c) (Some v) (q.own c) (eq-eqb c c refl)))
       (λ k n. ap (own_of s (get_or formers k None)) (new_cell k n) ∙ sym (cond-false (eqb k c) (Some v) (q.own k) (ne_eqb k c n)))))
       ∙ ap target (sym (slot_is s o)))
       (λ t n. ⊎_elim

@@ -24,8 +24,8 @@ unless_seen (Some p) = again p
 
 -- A message, judged by the epoch in force and by where its client's job was committed.
 abbrev pub judged_by : ℕ → (ℕ → ℕ → Option ℕ) → Msg → Judged
-judged_by in-force seen (epoch_change i e) = cond (e == in-force) accepted stale
-judged_by in-force seen (transaction t) = cond (t.epoch == in-force) (unless_seen (seen t.client t.job)) late
+judged_by in_force seen (epoch_change i e) = cond (e == in_force) accepted stale
+judged_by in_force seen (transaction t) = cond (t.epoch == in_force) (unless_seen (seen t.client t.job)) late
 
 -- The judgement of a message after a front of the log.
 unfoldable pub judge : Summary → Msg → Judged

@@ -28,7 +28,7 @@ of_decimal n h =
       some = told.0;
       short = length-decimal-le 18 n (omega arith) h small;
       digits = told.1;
-      plain = λ zero-first. ⊎_elim (λ pos. absurd (omega (arith, first_decimal n pos small))) (λ none. let z : n ≡ 0 = omega arith in ap (λ k. length (decimal k)) z ∙ ap length (decimal_digit 0 (omega arith))) (order 0 n);
+      plain = λ zero_first. ⊎_elim (λ pos. absurd (omega (arith, first_decimal n pos small))) (λ none. let z : n ≡ 0 = omega arith in ap (λ k. length (decimal k)) z ∙ ap length (decimal_digit 0 (omega arith))) (order 0 n);
     }
 
 pub shape : (n : ℕ) (bs : List ℕ) → Writes n bs → Shape bs

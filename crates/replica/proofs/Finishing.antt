@@ -97,8 +97,8 @@ module _ (unit : ℕ → ℕ) (m : Meaning) (s : ℕ) where
   -- the seal that follows the runs
   pub sealed_last : (d n : Meaning) (xs : List Statement) (p : ℕ) → d ≡ ran_all unit m s xs → seal_refusal d s p ≡ finish_refusal unit m s xs p → undone d s ≡ undone m s → is_open d s ≡ is_open m s
       → (r : Result (Unit {0}) Fault) → Seals r s p d n → Finishes unit r s xs p m n
-  sealed_last d n xs p ran-so same undo-so open-so (Ok u) told = (sym same ∙ told.0, told.2 ∙ ap (λ k. sealed k s p) ran-so)
-  sealed_last d n xs p ran-so same undo-so open-so (Err e) told = (sym same ∙ told.0, ap (λ k. undone k s) told.1 ∙ undo-so, ap (λ k. is_open k s) told.1 ∙ open-so)
+  sealed_last d n xs p ran_so same undo_so open_so (Ok u) told = (sym same ∙ told.0, told.2 ∙ ap (λ k. sealed k s p) ran_so)
+  sealed_last d n xs p ran_so same undo_so open_so (Err e) told = (sym same ∙ told.0, ap (λ k. undone k s) told.1 ∙ undo_so, ap (λ k. is_open k s) told.1 ∙ open_so)
 
   -- the first refusal, where the open is not refused
   pub first_open : (o : Option Fault) → open_refusal m s ≡ None → first_of (open_refusal m s) o ≡ o

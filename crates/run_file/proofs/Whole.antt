@@ -58,10 +58,10 @@ names_fault text rest k f fits counts e s =
       line = omega (arith, s.line);
     })
 
-pub steps-head-fault :
+pub steps_head_fault :
     (text rest after : List ℕ) (k : ℕ) (ns : Lines) (f : FileFault) → length text ≤ 32768 → Counts Names k → text ≡ head Names k ++ (10 ∷ rest) →
     (length ns ≡ k) × AllNames ns × (rest ≡ ended ns after) → NoLine (HeadLine Steps) after × (f.why ≡ why.Head) × (f.line ≡ k + 2) → Faulty text f.why f.line
-steps-head-fault text rest after k ns f fits counts e read h =
+steps_head_fault text rest after k ns f fits counts e read h =
     let front : Front = in_names k ns in
     at_line text f.why f.line fits
     (record {
@@ -80,10 +80,10 @@ all_lines : (text rest after left : List ℕ) (k n : ℕ) (ns ts : Lines) → te
 all_lines text rest after left k n ns ts e long f g end h =
     e ∙ (λ i. head Names (sym long i) ++ (10 ∷ (f ∙ ap (ended ns) (g ∙ ap (λ (t : List ℕ). head Steps n ++ (10 ∷ t)) h) ∙ sym (ended_append ns (head Steps n ∷ ts) end)) i))
 
-pub steps-outcome :
+pub steps_outcome :
     (text rest after left : List ℕ) (k n : ℕ) (ns : Lines) (r : Result (Unit {0}) FileFault) (ls : List Line) → length text ≤ 32768 → Counts Names k → text ≡ head Names k ++ (10 ∷ rest) →
     (length ns ≡ k) × AllNames ns × (rest ≡ ended ns after) → Counts Steps n × (after ≡ head Steps n ++ (10 ∷ left)) → StepsRead ns left n (k + 2 + 1) r ls → FileRead text r ns ls
-steps-outcome text rest after left k n ns (Ok u) ls fits counts e read h s =
+steps_outcome text rest after left k n ns (Ok u) ls fits counts e read h s =
     let count = s.0 in
     let c : Counts Names (length ns) = subst (Counts Names) (sym read.0) counts in
     let whole = all_lines text rest after left k n ns (map own ls) e read.0 read.2 h.1 [] s.2 in
@@ -95,7 +95,7 @@ steps-outcome text rest after left k n ns (Ok u) ls fits counts e read h s =
       );
       says = s.1;
     }
-steps-outcome text rest after left k n ns (Err f) ls fits counts e read h s =
+steps_outcome text rest after left k n ns (Err f) ls fits counts e read h s =
     let front : Front = in_steps ns n s.done in
     let c : Counts Names (length ns) = subst (Counts Names) (sym read.0) counts in
     at_line text f.why f.line fits

@@ -91,6 +91,6 @@ Roomy names lines = (16 ≤ names) × (999 ≤ lines)
 
 -- What a reading of a text into so much room answers: the names and lines of a run file, or why there are none.
 abbrev pub Reads : List ℕ → ℕ → ℕ → Result (Unit {0}) Unread → List (List ℕ) → List Line → Type 0
-Reads text room-names room-lines (Ok u) names lines = Roomy room-names room-lines × Accepted text names lines
-Reads text room-names room-lines (Err unread.NoRoom) names lines = (Roomy room-names room-lines → ⊥) × (names ≡ []) × (lines ≡ [])
-Reads text room-names room-lines (Err (unread.Faulty f)) names lines = Roomy room-names room-lines × Faulty text f.why f.line × (names ≡ []) × (lines ≡ [])
+Reads text room_names room_lines (Ok u) names lines = Roomy room_names room_lines × Accepted text names lines
+Reads text room_names room_lines (Err unread.NoRoom) names lines = (Roomy room_names room_lines → ⊥) × (names ≡ []) × (lines ≡ [])
+Reads text room_names room_lines (Err (unread.Faulty f)) names lines = Roomy room_names room_lines × Faulty text f.why f.line × (names ≡ []) × (lines ≡ [])

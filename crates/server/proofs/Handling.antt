@@ -73,7 +73,7 @@ module _ (databases number i : ℕ) (v : Server) (ms : ℕ → Meaning) where
             Handles databases number committed (transaction t) (Ok tt) i v ms w ns
         intake_done w told pass =
             let m = taken_in (ms i) t.stmts v.delivered in
-            let past-mark = le-ltb v.delivered (ms i).mark le in
+            let past_mark = le-ltb v.delivered (ms i).mark le in
             obeyed commits NothingTold after_commit i v ms tt w m ns
-            (ap (commit_why databases i S) (sym own) ∙ cond-false _ _ _ past-mark ∙ ap up told.0) tt told.2
-            (pass m ∙ sym (ap (commit_at S t) (sym own) ∙ cond-false _ _ _ past-mark))
+            (ap (commit_why databases i S) (sym own) ∙ cond-false _ _ _ past_mark ∙ ap up told.0) tt told.2
+            (pass m ∙ sym (ap (commit_at S t) (sym own) ∙ cond-false _ _ _ past_mark))

@@ -17,12 +17,12 @@ returns-in_default g c =
     let k = c.args.id.client in
     let j = c.args.id.job in
     let asked = c.in_ok-asked.ensures in
-    let no-client = refusal.Server i fault.NoClient in
-    let no-transaction = refusal.Server i fault.NoTransaction in
+    let no_client = refusal.Server i fault.NoClient in
+    let no_transaction = refusal.Server i fault.NoTransaction in
     let found = state_found (find (s.servers i) k j) in
-    told_server s i (cond (ltb 15 k) (Some no-client) (if_told found (Some no-transaction))) asked.0
-    ∙ cond-false (ltb 15 k) (Some no-client) (if_told found (Some no-transaction)) (le-ltb 15 k c.if-id-gt-LAST_CLIENT.false)
-    ∙ ap (λ x. if_told x (Some no-transaction)) (sym (c.in_default.ensures (s.servers i).db ∙ ap (λ (u : Site). state_found (find u k j)) asked.1.3))
+    told_server s i (cond (ltb 15 k) (Some no_client) (if_told found (Some no_transaction))) asked.0
+    ∙ cond-false (ltb 15 k) (Some no_client) (if_told found (Some no_transaction)) (le-ltb 15 k c.if-id-gt-LAST_CLIENT.false)
+    ∙ ap (λ x. if_told x (Some no_transaction)) (sym (c.in_default.ensures (s.servers i).db ∙ ap (λ (u : Site). state_found (find u k j)) asked.1.3))
 
 pub returns : goal.returns
 returns g c =
@@ -31,12 +31,12 @@ returns g c =
     let k = c.args.id.client in
     let j = c.args.id.job in
     let asked = c.in_ok-asked.ensures in
-    let no-client = refusal.Server i fault.NoClient in
-    let no-transaction = refusal.Server i fault.NoTransaction in
+    let no_client = refusal.Server i fault.NoClient in
+    let no_transaction = refusal.Server i fault.NoTransaction in
     let found = state_found (find (s.servers i) k j) in
     let same = c.in-Some.ensures (s.servers i).db ∙ ap (λ (u : Site). state_found (find u k j)) asked.1.3 in (
-      told_server s i (cond (ltb 15 k) (Some no-client) (if_told found (Some no-transaction))) asked.0
-          ∙ cond-false (ltb 15 k) (Some no-client) (if_told found (Some no-transaction)) (le-ltb 15 k c.if-id-gt-LAST_CLIENT.false)
-          ∙ ap (λ x. if_told x (Some no-transaction)) (sym same),
+      told_server s i (cond (ltb 15 k) (Some no_client) (if_told found (Some no_transaction))) asked.0
+          ∙ cond-false (ltb 15 k) (Some no_client) (if_told found (Some no_transaction)) (le-ltb 15 k c.if-id-gt-LAST_CLIENT.false)
+          ∙ ap (λ x. if_told x (Some no_transaction)) (sym same),
       same,
     )
