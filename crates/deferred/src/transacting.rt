@@ -1,6 +1,6 @@
 //! The calls of a database.
 ghost use Rattle.deferred.specs.Units.{unit_of_eight};
-ghost use Rattle.std.proofs.Common.{rules, arith};
+ghost use Rattle.std.proofs.Common.{arith};
 
 use crate::state::Deferred;
 use crate::transaction::Transaction;
@@ -11,7 +11,7 @@ use statement::Statement;
 impl Database for Deferred {
     ghost unit = { unit_of_eight };
 
-    ghost below = { first_of (Prim.search rules, Prim.grind (arith, Self.row.coded.inj)) };
+    ghost below = { λ c low. omega arith };
 
     fn open(&mut self, slot: usize) -> Result<(), Fault> {
         if slot >= SLOTS {

@@ -1,6 +1,6 @@
 //! The calls of a database that runs transactions.
 ghost use Rattle.in_place.specs.State.{same_unit};
-ghost use Rattle.std.proofs.Common.{rules, arith};
+ghost use Rattle.std.proofs.Common.{arith};
 
 use crate::cellwise::{base_all, release_all, restore_all};
 use crate::state::InPlace;
@@ -10,7 +10,7 @@ use statement::Statement;
 impl Database for InPlace {
     ghost unit = { same_unit };
 
-    ghost below = { first_of (Prim.search rules, Prim.grind (arith, Self.row.coded.inj)) };
+    ghost below = { λ c low. omega arith };
 
     fn open(&mut self, slot: usize) -> Result<(), Fault> {
         if slot >= SLOTS {

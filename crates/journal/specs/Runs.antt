@@ -1,4 +1,4 @@
--- Statements run one after another on cells: what they leave (`all-stepped`) and what they answer.
+-- Statements run one after another on cells: what they leave (`all_stepped`) and what they answer.
 use Rattle.std.specs.Prelude.{ℕ, List, [], ◌∷◌}
 use Rattle.statement.specs.declared.checked.Statement.{Statement}
 use Rattle.statement.specs.Operations.{answered}

@@ -19,11 +19,11 @@ fn work(
     job: u32,
     cell: u64,
     operation: Operation,
-    res: u64,
+    answer: u64,
 ) -> Result<Message, Missing> {
     let statement = Statement::new(cell, operation)?;
     let empty = Notes::new();
-    let notes = empty.with(statement, res).unwrap_or(empty);
+    let notes = empty.with(statement, answer).unwrap_or(empty);
     Ok(Message::Transaction(Transaction {
         sender,
         epoch,

@@ -1,12 +1,9 @@
--- The two parts of a row, the ordered messages and the waiting ones, as messages are offered and ordered.
-use Rattle.std.specs.Prelude.{◌≡◌, ℕ, ◌+◌, ◌-◌, ◌<◌, ◌≤◌, List, [], ◌∷◌, ◌++◌, map, length, take, drop, Some, slice_index_or, refl}
-use Rattle.std.proofs.Common.{sym, ap, ◌∙◌, arith, length-take, length-drop}
-use Rattle.std.proofs.lemmas.List.{map_push, map_more, length-map, drop_more, drop_all, get_or-take, drop-append-le, take-append-le}
+-- The two parts of a row: the ordered messages, and the waiting ones.
+use Rattle.std.specs.Prelude.{◌≡◌, ℕ, ◌-◌, ◌≤◌, List, map, length, take, drop}
+use Rattle.std.proofs.Common.{◌∙◌, arith, length-take, length-drop}
+use Rattle.std.proofs.lemmas.List.{length-map}
 use Rattle.message.specs.declared.messages.Message.{Message}
-use Rattle.message.specs.declared.messages.Message.TheVariants.{Epoch}
 use Rattle.message.specs.Messages.{Msg, msg_of}
-use Rattle.broadcast.specs.Bags.{nth, Moved}
-use Rattle.broadcast.proofs.Positions.{nth_within}
 
 -- what the first n of a row mean
 abbrev pub log_of_front : ℕ → List Message → List Msg
@@ -23,35 +20,3 @@ log_length n xs h = length-map (take n xs) msg_of ∙ simp length-take (omega ar
 -- the waiting part has the others
 pub bag_length : (n : ℕ) (xs : List Message) → length (bag_of_rest n xs) ≡ length xs - n
 bag_length n xs = length-map (drop n xs) msg_of ∙ simp length-drop
-
--- an empty row has none that waits
-pub no_bag : (xs : List Message) → xs ≡ [] → bag_of_rest 0 xs ≡ []
-no_bag xs e = ap (bag_of_rest 0) e
-
--- an offer leaves the ordered part
-pub offered_log : (m : Message) (n : ℕ) (xs ys : List Message) → n ≤ length xs → ys ≡ xs ++ m ∷ [] → log_of_front n ys ≡ log_of_front n xs
-offered_log m n xs ys h e = ap (log_of_front n) e ∙ ap (map msg_of) (take-append-le n xs (m ∷ []) h)
-
--- an offer goes behind all that wait
-pub offered_bag : (m : Message) (n : ℕ) (xs ys : List Message) → n ≤ length xs → ys ≡ xs ++ m ∷ [] → bag_of_rest n ys ≡ bag_of_rest n xs ++ msg_of m ∷ []
-offered_bag m n xs ys h e = ap (bag_of_rest n) e ∙ ap (map msg_of) (drop-append-le n xs (m ∷ []) h) ∙ map_push msg_of (drop n xs) m
-
--- a message at which a list is read past its end
-nobody : Message
-nobody = Epoch (record { sender = 0; epoch = 0 })
-
--- one more ordered is one less that waits
-pub first_moved : (n : ℕ) (xs : List Message) → n < length xs → (m : Msg) × (bag_of_rest n xs ≡ m ∷ bag_of_rest (n + 1) xs) × (log_of_front (n + 1) xs ≡ log_of_front n xs ++ m ∷ [])
-first_moved n xs h = (msg_of (slice_index_or xs n nobody), ap (map msg_of) (drop_more xs n nobody h), map_more msg_of xs n nobody h)
-
--- the first of those that wait is one of them
-pub moved : (m : Msg) (log bag log' bag' : List Msg) → bag ≡ m ∷ bag' → log' ≡ log ++ m ∷ [] → Moved log bag log' bag'
-moved m log bag log' bag' out in' = record { message = m; taken = record { front = []; back = bag'; old = refl; new = out }; added = in' }
-
--- where all are ordered none waits
-pub none_left : (n : ℕ) (xs : List Message) → length xs ≤ n → bag_of_rest n xs ≡ []
-none_left n xs h = ap (map msg_of) (drop_all n xs h)
-
--- a message of the row below the count is the one at its position
-pub log_at : (xs : List Message) (n p : ℕ) (m : Message) → p < n → n ≤ length xs → m ≡ slice_index_or xs p m → Some (msg_of m) ≡ nth (log_of_front n xs) p
-log_at xs n p m l h e = nth_within msg_of (take n xs) p m (simp length-take (omega arith)) (e ∙ sym (get_or-take n xs p m l))

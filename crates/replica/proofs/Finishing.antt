@@ -10,7 +10,7 @@ use Rattle.replica.specs.Meanings.{Meaning, Slot, put, fresh, is_open, current}
 use Rattle.replica.specs.Calls.{opened, written_into, looked_at, ran, sealed, undone}
 use Rattle.replica.specs.Refusals.{open_refusal, run_refusal, seal_refusal, undo_refusal}
 use Rattle.replica.specs.Outcomes.{Seals}
-use Rattle.replica.specs.Transactions.{first_of, ran_all, finish_refusal, Finishes, Transacts}
+use Rattle.replica.specs.Transactions.{first_refusal, ran_all, finish_refusal, Finishes, Transacts}
 use Rattle.replica.proofs.Same.{same_meaning}
 
 -- a place that is written twice holds what was written last
@@ -75,7 +75,7 @@ module _ (unit : ℕ → ℕ) (m : Meaning) (s : ℕ) where
       let same : n ≡ ran unit m s (get_or xs i st) = is ∙ ap (ran unit m s) read in (
         ap (λ k. ran_all unit k s (drop (i + 1) xs)) same ∙ sym (ap (ran_all unit m s) cut),
         ap (λ k. finish_refusal unit k s (drop (i + 1) xs) p) same
-            ∙ sym (ap (λ o. first_of o (finish_refusal unit (ran unit m s (get_or xs i st)) s (drop (i + 1) xs) p)) (sym (ap (run_refusal unit m s) read) ∙ free))
+            ∙ sym (ap (λ o. first_refusal o (finish_refusal unit (ran unit m s (get_or xs i st)) s (drop (i + 1) xs) p)) (sym (ap (run_refusal unit m s) read) ∙ free))
             ∙ sym (ap (λ l. finish_refusal unit m s l p) cut),
         ap (λ k. undone k s) is ∙ undone_ran st,
         ap (λ k. is_open k s) is ∙ open_ran st ∙ sym (was_open _ _ (is_open m s) free),
@@ -89,7 +89,7 @@ module _ (unit : ℕ → ℕ) (m : Meaning) (s : ℕ) where
   pub one_refused : (xs : List Statement) (i p : ℕ) (st : Statement) (e : Fault) → i < length xs → st ≡ get_or xs i st → run_refusal unit m s st ≡ Some e → finish_refusal unit m s (drop i xs) p ≡ Some e
   one_refused xs i p st e within read refused =
       ap (λ l. finish_refusal unit m s l p) (drop_more xs i st within)
-      ∙ ap (λ o. first_of o (finish_refusal unit (ran unit m s (get_or xs i st)) s (drop (i + 1) xs) p)) (sym (ap (run_refusal unit m s) read) ∙ refused)
+      ∙ ap (λ o. first_refusal o (finish_refusal unit (ran unit m s (get_or xs i st)) s (drop (i + 1) xs) p)) (sym (ap (run_refusal unit m s) read) ∙ refused)
 
   pub no_more : (xs : List Statement) (i p : ℕ) → length xs ≤ i → (ran_all unit m s (drop i xs) ≡ m) × (finish_refusal unit m s (drop i xs) p ≡ seal_refusal m s p)
   no_more xs i p past = let e = drop_all i xs past in (ap (ran_all unit m s) e, ap (λ l. finish_refusal unit m s l p) e)
@@ -101,8 +101,8 @@ module _ (unit : ℕ → ℕ) (m : Meaning) (s : ℕ) where
   sealed_last d n xs p ran_so same undo_so open_so (Err e) told = (sym same ∙ told.0, ap (λ k. undone k s) told.1 ∙ undo_so, ap (λ k. is_open k s) told.1 ∙ open_so)
 
   -- the first refusal, where the open is not refused
-  pub first_open : (o : Option Fault) → open_refusal m s ≡ None → first_of (open_refusal m s) o ≡ o
-  first_open o free = ap (λ x. first_of x o) free
+  pub first_open : (o : Option Fault) → open_refusal m s ≡ None → first_refusal (open_refusal m s) o ≡ o
+  first_open o free = ap (λ x. first_refusal x o) free
 
   pub free_is_shut : open_refusal m s ≡ None → is_open m s ≡ false
   unfolding open_refusal

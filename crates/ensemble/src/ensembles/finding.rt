@@ -31,6 +31,7 @@ impl<B: Broadcast, K: DatabaseBank> Ensemble<B, K> {
         }
         Ok(usize::from(server) - 1)
     }
+
     /// The place of a server, and the server there.
     ///
     /// Refused where there is no such server.

@@ -1,7 +1,8 @@
 -- A position below the count of ordered messages reads the row there.
 use Rattle.std.proofs.Common.{◌<◌, ◌≤◌, length, arith}
 use Rattle.broadcast.proofs.Positions.{nth_past}
-use Rattle.oldest_first.specs.Parts.{log_of_front, log_length, log_at}
+use Rattle.oldest_first.specs.Parts.{log_of_front, log_length}
+use Rattle.oldest_first.proofs.Parts.{log_at}
 use Rattle.oldest_first.proofs.rows.ordering.OldestFirstBroadcast.message_at.Goals as goal
 
 pub index-requires : goal.index-requires

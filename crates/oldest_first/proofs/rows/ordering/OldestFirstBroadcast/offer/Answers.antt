@@ -1,7 +1,8 @@
 -- An offer lengthens the waiting part by the message, where the two parts are not 128 long together.
 use Rattle.std.proofs.Common.{◌≤◌, length, refl, arith, rules}
 use Rattle.broadcast.proofs.Positions.{inserted_last}
-use Rattle.oldest_first.specs.Parts.{log_length, bag_length, offered_log, offered_bag}
+use Rattle.oldest_first.specs.Parts.{log_length, bag_length}
+use Rattle.oldest_first.proofs.Parts.{offered_log, offered_bag}
 use Rattle.oldest_first.proofs.rows.ordering.OldestFirstBroadcast.offer.Goals as goal
 
 pub returns-then-held-ge-CAPACITY : goal.returns-then-held-ge-CAPACITY

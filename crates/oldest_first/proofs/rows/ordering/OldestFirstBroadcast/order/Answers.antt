@@ -1,6 +1,6 @@
 -- One more ordered message is the first of the waiting ones.
 use Rattle.std.proofs.Common.{◌<◌, ◌≤◌, length, refl, arith}
-use Rattle.oldest_first.specs.Parts.{first_moved, moved, none_left}
+use Rattle.oldest_first.proofs.Parts.{first_moved, moved, none_left}
 use Rattle.oldest_first.proofs.rows.ordering.OldestFirstBroadcast.order.Goals as goal
 
 pub returns-then-self-len : goal.returns-then-self-len
