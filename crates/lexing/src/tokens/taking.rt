@@ -11,7 +11,8 @@ use crate::names::is_name;
 impl<'a> Lexer<'a> {
     /// The next word, where it writes a number of at most `most`.
     pub fn number(&mut self, most: u64) -> Option<u64>
-        ensures { Takes (λ n. (n < 10 ^ 18) × (n ≤ most)) (λ n. decimal n ∷ []) result (left self.old) (left self.new) }
+        ensures takes { Takes (λ n. (n < 10 ^ 18) × (n ≤ most)) (λ n. decimal n ∷ []) result (left self.old) (left self.new) }
+        ensures line { self.new.line ≡ self.old.line }
     {
         match self.token() {
             Token::Number {
@@ -26,7 +27,8 @@ impl<'a> Lexer<'a> {
 
     /// The next word, where it writes a number of at most 255.
     pub fn byte(&mut self) -> Option<u8>
-        ensures { Takes (λ n. n ≤ 255) (λ n. decimal n ∷ []) result (left self.old) (left self.new) }
+        ensures takes { Takes (λ n. n ≤ 255) (λ n. decimal n ∷ []) result (left self.old) (left self.new) }
+        ensures line { self.new.line ≡ self.old.line }
     {
         match self.number(255) {
             Some(n) => Some(n as u8),
@@ -36,7 +38,8 @@ impl<'a> Lexer<'a> {
 
     /// The next word, where it is a name.
     pub fn name(&mut self) -> Option<&'a [u8]>
-        ensures { Takes Name (λ t. t ∷ []) (option_map (λ x. x.now) result) (left self.old) (left self.new) }
+        ensures takes { Takes Name (λ t. t ∷ []) (option_map (λ x. x.now) result) (left self.old) (left self.new) }
+        ensures line { self.new.line ≡ self.old.line }
     {
         match self.token() {
             Token::Word { text, line: _ } => { if is_name(text) { Some(text) } else { None } }
@@ -51,7 +54,8 @@ impl<'a> Lexer<'a> {
 
     /// The next word, where it writes no number.
     pub fn word(&mut self) -> Option<&'a [u8]>
-        ensures { Takes Word (λ t. t ∷ []) (option_map (λ x. x.now) result) (left self.old) (left self.new) }
+        ensures takes { Takes Word (λ t. t ∷ []) (option_map (λ x. x.now) result) (left self.old) (left self.new) }
+        ensures line { self.new.line ≡ self.old.line }
     {
         match self.token() {
             Token::Word { text, line: _ } => Some(text),

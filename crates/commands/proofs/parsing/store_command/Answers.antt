@@ -7,4 +7,4 @@ returns-in_default c t cell value a b d e = c.in_default.ensures (t, cell) _ (a,
 
 pub returns-in_default-number : goal.returns-in_default-number
 returns-in_default-number c t cell value a b d e =
-    c.in_default-number.ensures value _ (omega arith, d) (past_place c.in-Some.target t c.in-Some.cell cell c.in-Some.ensures.1 e)
+    c.in_default-number.ensures.takes value _ (omega arith, d) (past_place c.in-Some.target t c.in-Some.cell cell c.in-Some.ensures.1 e)
