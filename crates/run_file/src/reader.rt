@@ -36,6 +36,7 @@ pub(crate) fn read_names<'a>(
 ) -> Result<&'a [u8], FileFault>
     requires { (names.old.items ≡ []) × ((count ≤ 16) × (16 ≤ vec_capacity names.old)) }
     ensures read { NamesRead text.now count result (texts names.new.items) }
+    ensures room { vec_capacity names.new ≡ vec_capacity names.old }
 {
     let mut rest = text;
     for i in 0..count {
@@ -65,6 +66,7 @@ pub(crate) fn read_steps<'a>(
 ) -> Result<(), FileFault>
     requires { (lines.old.items ≡ []) × ((count ≤ 999) × ((999 ≤ vec_capacity lines.old) × ((first ≤ 100) × (length names.now ≤ 16)))) }
     ensures read { StepsRead (texts names.now) text.now count first result lines.new.items }
+    ensures room { vec_capacity lines.new ≡ vec_capacity lines.old }
 {
     let mut rest = text;
     for i in 0..count {
@@ -122,6 +124,7 @@ pub(crate) fn read_file<'a>(
 ) -> Result<(), FileFault>
     requires { (names.old.items ≡ []) × ((lines.old.items ≡ []) × ((16 ≤ vec_capacity names.old) × (999 ≤ vec_capacity lines.old))) }
     ensures read { FileRead text.now result (texts names.new.items) lines.new.items }
+    ensures room { (vec_capacity names.new ≡ vec_capacity names.old) × (vec_capacity lines.new ≡ vec_capacity lines.old) }
 {
     if text.len() > BYTES {
         return Err(FileFault {

@@ -25,12 +25,13 @@ impl<'a> RunFile<'a> {
         RunFile { names, lines }
     }
 
-    /// Reads a text: what was there before is forgotten.
+    /// Reads a text: what was there before is forgotten, and the room stays.
     ///
     /// Refused exactly where there is too little room for the largest file, and then where the text is not a run file; the names and the steps
     /// are then empty.
     pub fn read(&mut self, text: &'a [u8]) -> Result<(), Unread>
         ensures read { Reads text.now (vec_capacity self.old.names) (vec_capacity self.old.lines) result (names_of self.new) (lines_of self.new) }
+        ensures room { (vec_capacity self.new.names ≡ vec_capacity self.old.names) × (vec_capacity self.new.lines ≡ vec_capacity self.old.lines) }
     {
         self.names.clear();
         self.lines.clear();

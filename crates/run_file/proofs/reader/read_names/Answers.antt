@@ -10,7 +10,7 @@ use Rattle.run_file.proofs.reader.read_names.Goals as goal
 pub loop-i-init : goal.loop-i-init
 loop-i-init c =
     let none : texts (vec_items c.args.names.now) ≡ [] = ap texts c.requires.0 in
-    (ap length c.requires.0, subst AllNames (sym none) no_names, ap (λ (ls : List (List ℕ)). ended ls c.args.text.now) (sym none), c.requires.1.1)
+    (ap length c.requires.0, subst AllNames (sym none) no_names, ap (λ (ls : List (List ℕ)). ended ls c.args.text.now) (sym none), refl)
 
 pub returns-in_default : goal.returns-in_default
 returns-in_default c =
@@ -27,6 +27,7 @@ returns-in_default c =
         why = refl;
         line = omega (arith, length-map ns text_of, inv.0);
       };
+      room = inv.3;
     }
 
 -- what is not fresh among the slice is not fresh among the names
@@ -53,6 +54,7 @@ returns-then-not-is_fresh c =
         why = refl;
         line = omega (arith, length-map ns text_of, inv.0);
       };
+      room = inv.3;
     }
 
 pub loop-i-preserved : goal.loop-i-preserved
@@ -75,4 +77,4 @@ pub returns : goal.returns
 returns c =
     let inv = c.loop-i.invariant in
     let ns = vec_items c.loop-i.names in
-    record { read = (omega (arith, length-map ns text_of, inv.0), inv.1, inv.2) }
+    record { read = (omega (arith, length-map ns text_of, inv.0), inv.1, inv.2); room = inv.3 }

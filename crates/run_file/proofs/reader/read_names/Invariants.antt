@@ -1,4 +1,4 @@
-use Rattle.std.proofs.Common.{◌≡◌, ◌≤◌, length, vec_items, vec_capacity}
+use Rattle.std.proofs.Common.{◌≡◌, length, vec_items, vec_capacity}
 use Rattle.run_file.specs.Texts.{texts}
 use Rattle.run_file.specs.Form.{ended, AllNames}
 use Rattle.run_file.proofs.reader.read_names.Given as goal
@@ -8,4 +8,4 @@ invariant-loop-i l =
     (length (vec_items l.names) ≡ l.i)
     × AllNames (texts (vec_items l.names))
     × (l.text ≡ ended (texts (vec_items l.names)) l.rest)
-    × (16 ≤ vec_capacity l.names)
+    × (vec_capacity l.names ≡ vec_capacity l.initial.names)

@@ -9,7 +9,7 @@ use Rattle.run_file.proofs.reader.read_steps.Goals as goal
 
 pub loop-i-init : goal.loop-i-init
 loop-i-init c =
-    (ap length c.requires.0, subst (AllSay (texts c.args.names.now)) (sym c.requires.0) tt, ap (λ (ls : List Line). ended (map own ls) c.args.text.now) (sym c.requires.0), c.requires.1.1.0)
+    (ap length c.requires.0, subst (AllSay (texts c.args.names.now)) (sym c.requires.0) tt, ap (λ (ls : List Line). ended (map own ls) c.args.text.now) (sym c.requires.0), refl)
 
 pub returns-in_default : goal.returns-in_default
 returns-in_default c =
@@ -17,7 +17,7 @@ returns-in_default c =
     let ls = vec_items c.loop-i.lines in
     let long : length (map own ls) ≡ c.loop-i.i = length-map ls own ∙ inv.0 in
     let none = no_command_free _ c.in_default.ensures.text in
-    record { read = stopped _ _ _ _ ls _ _ inv.1 inv.2 (omega (arith, long)) (λ _. no_step _ _ none) (omega (arith, long), none) (omega (arith, long)) }
+    record { read = stopped _ _ _ _ ls _ _ inv.1 inv.2 (omega (arith, long)) (λ _. no_step _ _ none) (omega (arith, long), none) (omega (arith, long)); room = inv.3 }
 
 pub returns-in_default-parse : goal.returns-in_default-parse
 returns-in_default-parse c =
@@ -26,7 +26,7 @@ returns-in_default-parse c =
     let long : length (map own ls) ≡ c.loop-i.i = length-map ls own ∙ inv.0 in
     let cuts = c.in-Some.ensures.text in
     let none = no_command_line _ _ cuts.0 cuts.1 c.in_default-parse.ensures in
-    record { read = stopped _ _ _ _ ls _ _ inv.1 inv.2 (omega (arith, long)) (λ _. no_step _ _ none) (omega (arith, long), none) (omega (arith, long)) }
+    record { read = stopped _ _ _ _ ls _ _ inv.1 inv.2 (omega (arith, long)) (λ _. no_step _ _ none) (omega (arith, long), none) (omega (arith, long)); room = inv.3 }
 
 pub returns-in_default-step_of : goal.returns-in_default-step_of
 returns-in_default-step_of c =
@@ -41,6 +41,7 @@ returns-in_default-step_of c =
           (λ _. unlisted_line _ _ _ d cuts.0 cuts.1 said.0 said.1 c.in_default-step_of.ensures)
           (omega (arith, long), record { command = d; after = c.in-Some.after.now; proper = said.0; is = cuts.1 ∙ ap (λ (l : List ℕ). l ++ (10 ∷ c.in-Some.after.now)) said.1 })
           (omega (arith, long));
+      room = inv.3;
     }
 
 pub loop-i-preserved : goal.loop-i-preserved
@@ -65,13 +66,13 @@ returns-then-rest-gt0 c =
     let inv = c.loop-i.invariant in
     let ls = vec_items c.loop-i.lines in
     let long : length (map own ls) ≡ c.args.count = length-map ls own ∙ inv.0 ∙ omega arith in
-    record { read = stopped _ _ _ _ ls _ _ inv.1 inv.2 (omega (arith, long)) (λ less. absurd (omega (arith, long, less))) (long, λ e. omega (arith, ap length e)) (omega (arith, long)) }
+    record { read = stopped _ _ _ _ ls _ _ inv.1 inv.2 (omega (arith, long)) (λ less. absurd (omega (arith, long, less))) (long, λ e. omega (arith, ap length e)) (omega (arith, long)); room = inv.3 }
 
 pub returns : goal.returns
 returns c =
     let inv = c.loop-i.invariant in
     let ls = vec_items c.loop-i.lines in
-    record { read = (omega (arith, inv.0), inv.1, inv.2 ∙ ap (ended (map own ls)) (nothing_left c.loop-i.rest.now (omega arith))) }
+    record { read = (omega (arith, inv.0), inv.1, inv.2 ∙ ap (ended (map own ls)) (nothing_left c.loop-i.rest.now (omega arith))); room = inv.3 }
   where
     nothing_left : (bs : List ℕ) → length bs ≤ 0 → bs ≡ []
     nothing_left [] h = refl
