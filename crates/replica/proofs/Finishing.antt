@@ -1,5 +1,5 @@
 -- A transaction in a slot: its runs one after another, and what a slot that is undone leaves.
-use Rattle.std.proofs.Common.{◌≡◌, ℕ, ◌+◌, ◌<◌, ◌≤◌, Bool, true, false, cond, eqb, ltb, List, length, get_or, drop, is_some, Some, None, Ok, Err, Option, Result, sym, refl, ap, ◌∙◌, ⊎_elim, arith}
+use Rattle.std.proofs.Common.{◌≡◌, ℕ, ◌+◌, ◌<◌, ◌≤◌, Bool, true, false, cond, eqb, ltb, List, length, get_or, drop, is_some, is_err, Some, None, Ok, Err, Option, Result, sym, refl, ap, ◌∙◌, ⊎_elim}
 use Rattle.std.proofs.lemmas.List.{drop_more, drop_all}
 use Rattle.std.proofs.lemmas.Bool.{cases_eq, eq-eqb, ne_eqb, cond-true, cond-false, true≢false}
 use Rattle.statement.specs.declared.checked.Statement.{Statement}
@@ -83,7 +83,7 @@ module _ (unit : ℕ → ℕ) (m : Meaning) (s : ℕ) where
     where
       was_open : (x : Option Fault) (f : Fault) (b : Bool) → cond b x (Some f) ≡ None → b ≡ true
       was_open x f true e = refl
-      was_open x f false e = let z : ◌≡◌ {A = ℕ} 0 1 = cc in absurd (omega arith)
+      was_open x f false e = cc
 
   -- a run that is refused refuses the rest
   pub one_refused : (xs : List Statement) (i p : ℕ) (st : Statement) (e : Fault) → i < length xs → st ≡ get_or xs i st → run_refusal unit m s st ≡ Some e → finish_refusal unit m s (drop i xs) p ≡ Some e
@@ -110,18 +110,21 @@ module _ (unit : ℕ → ℕ) (m : Meaning) (s : ℕ) where
     where
       shut : (a b : Bool) → cond a (cond b (Some SlotOpen) None) (Some NoSlot) ≡ None → b ≡ false
       shut a false e = refl
-      shut true true e = let z : ◌≡◌ {A = ℕ} 0 1 = cc in absurd (omega arith)
-      shut false true e = let z : ◌≡◌ {A = ℕ} 0 1 = cc in absurd (omega arith)
+      shut true true e = cc
+      shut false true e = cc
 
   -- the transaction is refused after its slot was opened, and undone: nothing has changed
-  pub taken_back : (before after : Meaning) (sts : List Statement) (p : ℕ) (e : Fault) → open_refusal m s ≡ None → before ≡ opened m s
-      → (d : Meaning) → Finishes unit (Err e) s sts p before d → after ≡ undone d s → Transacts unit (Err e) s sts p m after
-  taken_back before after sts p e free is d told done = (
+  pub taken_back : (before d after : Meaning) (sts : List Statement) (p : ℕ) (r : Result (Unit {0}) Fault) → open_refusal m s ≡ None → before ≡ opened m s
+      → is_err r ≡ true → Finishes unit r s sts p before d → after ≡ undone d s → Transacts unit r s sts p m after
+  taken_back before d after sts p (Ok u) free is failed told done = absurd (true≢false (sym failed))
+  taken_back before d after sts p (Err e) free is failed told done = (
     first_open _ free ∙ ap (λ k. finish_refusal unit k s sts p) (sym is) ∙ told.0,
     done ∙ told.1 ∙ ap (λ k. undone k s) is ∙ undone_opened (free_is_shut free),
   )
 
   -- an undo of that slot is not refused
-  pub undo_serves : (before d : Meaning) (sts : List Statement) (p : ℕ) (e : Fault) → before ≡ opened m s → Finishes unit (Err e) s sts p before d → undo_refusal d s ≡ None
+  pub undo_serves : (before d : Meaning) (sts : List Statement) (p : ℕ) (r : Result (Unit {0}) Fault) → before ≡ opened m s
+      → is_err r ≡ true → Finishes unit r s sts p before d → undo_refusal d s ≡ None
   unfolding undo_refusal
-  undo_serves before d sts p e is told = cond-true (is_open d s) None (Some SlotClosed) (told.2 ∙ ap (λ k. is_open k s) is ∙ open_opened)
+  undo_serves before d sts p (Ok u) is failed told = absurd (true≢false (sym failed))
+  undo_serves before d sts p (Err e) is failed told = cond-true (is_open d s) None (Some SlotClosed) (told.2 ∙ ap (λ k. is_open k s) is ∙ open_opened)

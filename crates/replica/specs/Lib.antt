@@ -3,3 +3,4 @@ pub mod Calls
 pub mod Refusals
 pub mod Outcomes
 pub mod Transactions
+pub mod Words

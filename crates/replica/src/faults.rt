@@ -1,4 +1,7 @@
 //! Why a replica or a database refuses a call.
+ghost use Rattle.std.specs.Prelude.{Some};
+ghost use Rattle.replica.specs.Words.{fault_words};
+
 use std::error::Error;
 use std::fmt;
 
@@ -24,6 +27,8 @@ pub enum Fault {
 }
 
 impl fmt::Display for Fault {
+    ghost output = { λ x. Some (fault_words x) };
+
     fn fmt<W: fmt::Write>(&self, f: &mut fmt::Formatter<W>) -> fmt::Result {
         match *self {
             Fault::NoCell => write!(f, "no such cell"),

@@ -5,6 +5,7 @@ pub mod databases;
 pub mod faults;
 pub mod replaying;
 pub mod replicas;
+pub mod slots;
 pub mod transacting;
 
 pub use databases::Database;

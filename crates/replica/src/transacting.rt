@@ -33,11 +33,9 @@ pub fn transact<D: Database>(
     ensures { Transacts D.unit result slot statements.now position (D.Replica.meaning database.old) (D.Replica.meaning database.new) }
 {
     database.open(slot)?;
-    match finish(database, slot, statements, position) {
-        Ok(()) => Ok(()),
-        Err(fault) => {
-            database.undo(slot)?;
-            Err(fault)
-        }
+    let finished = finish(database, slot, statements, position);
+    if finished.is_err() {
+        database.undo(slot)?;
     }
+    finished
 }
