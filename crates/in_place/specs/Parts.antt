@@ -1,12 +1,15 @@
 -- The parts of the state, and what they mean.
-use Rattle.std.specs.Prelude.{ℕ, Bool, true, false, cond, List, [], Some, None, Option, ◌==◌, slice_index, slice_index_or}
+use Rattle.std.specs.Prelude.{ℕ, Bool, true, false, cond, List, is_some, Some, None, Option, ◌==◌, slice_index, slice_index_or}
+use Rattle.std.specs.Option.{option_map}
 use Rattle.replica.specs.Meanings.{Meaning, Slot}
 use Rattle.in_place.specs.declared.former.Former.{Former}
+use Rattle.in_place.specs.declared.read_set.ReadSet.{ReadSet}
+use Rattle.in_place.specs.Reads.{holds}
 
 -- Whoever wrote the cell is open.
-abbrev pub held_by_open : List Bool → Option Former → Bool
-held_by_open opens None = true
-held_by_open opens (Some f) = slice_index_or opens f.slot false
+abbrev pub held_by_open : List (Option ReadSet) → Option Former → Bool
+held_by_open slots None = true
+held_by_open slots (Some f) = is_some (slice_index_or slots f.slot None)
 
 -- The committed value of a cell that holds v.
 abbrev pub committed : Option Former → ℕ → ℕ
@@ -23,20 +26,20 @@ abbrev pub own_of : ℕ → Option Former → ℕ → Option ℕ
 own_of s None v = None
 own_of s (Some f) v = cond (f.slot == s) (Some v) None
 
--- Slot s, where it is open.
-abbrev pub shown_slot : List ℕ → List (Option Former) → List (List Bool) → ℕ → Slot
-shown_slot cells formers reads s = record {
-  reads = λ u. slice_index_or (slice_index_or reads s []) u false;
+-- Slot s, which holds these read locks.
+abbrev pub shown_slot : List ℕ → List (Option Former) → ℕ → ReadSet → Slot
+shown_slot cells formers s reads = record {
+  reads = holds reads;
   writes = λ u. written_by s (slice_index_or formers u None);
   own = λ c. own_of s (slice_index_or formers c None) (slice_index cells c);
 }
 
 -- What the parts mean together.
-abbrev pub means : List ℕ → List (Option Former) → List Bool → List (List Bool) → ℕ → Meaning
-means cells formers opens reads mark = record {
+abbrev pub means : List ℕ → List (Option Former) → List (Option ReadSet) → ℕ → Meaning
+means cells formers slots mark = record {
   cells = λ c. committed (slice_index_or formers c None) (slice_index cells c);
   mark = mark;
-  slots = λ s. cond (slice_index_or opens s false) (Some (shown_slot cells formers reads s)) None;
+  slots = λ s. option_map (shown_slot cells formers s) (slice_index_or slots s None);
 }
 
 -- What is left of a cell's former value once slot s is closed.

@@ -6,7 +6,7 @@ use Rattle.in_place.specs.Parts.{means}
 
 -- The meaning of the parts.
 abbrev pub meaning_of : InPlace → Meaning
-meaning_of d = means d.cells d.formers d.opens d.reads d.mark
+meaning_of d = means d.cells d.formers d.slots d.mark
 
 -- The unit of a cell is its number.
 abbrev pub same_unit : ℕ → ℕ

@@ -4,6 +4,7 @@
 mod cellwise;
 mod former;
 mod locking;
+mod read_set;
 pub mod replicating;
 pub mod state;
 pub mod transacting;

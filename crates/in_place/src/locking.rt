@@ -1,73 +1,42 @@
-//! Which slots are open, whose locks exclude others, and what a run leaves.
-ghost use Rattle.std.specs.Prelude.{◌≡◌, ◌<◌, true, false, get_or, slice_index_or};
-ghost use Rattle.replica.specs.Meanings.{any_below, is_open, excludes, busy};
+//! Whose locks exclude others, and what a run leaves.
+ghost use Rattle.std.specs.Prelude.{◌≡◌, ◌<◌, true, false};
+ghost use Rattle.statement.specs.Operations.{writes_cell};
+ghost use Rattle.replica.specs.Meanings.{is_open, excludes, busy};
 ghost use Rattle.replica.specs.Calls.{written_into, looked_at};
 ghost use Rattle.in_place.specs.State.{meaning_of, same_unit};
 
-use crate::cellwise::{base, wrote};
-use crate::former::Former;
+use crate::former::{Former, base, wrote};
 use crate::state::InPlace;
 use replica::SLOTS;
+use statement::Statement;
 
 impl InPlace {
-    /// Whether the slot is open; a slot that does not exist is not.
-    pub(crate) fn is_open(&self, slot: usize) -> bool
-        ensures value { result ≡ is_open (meaning_of self.now) slot }
-        ensures flag { result ≡ slice_index_or self.now.opens slot false }
-        ensures bound { result ≡ true → slot < 8 }
+    /// Whether a lock of `other` on the statement's cell excludes the one that the statement needs in `slot`.
+    fn shuts_out(&self, slot: usize, statement: &Statement, other: usize) -> bool
+        requires { other < 8 }
+        ensures { result ≡ excludes (meaning_of self.now) slot statement.now.cell (writes_cell statement.now.operation) other }
     {
-        if slot < SLOTS {
-            self.opens[slot]
-        } else {
-            false
-        }
-    }
-
-    /// Whether any slot is open.
-    pub(crate) fn any_open(&self) -> bool
-        ensures { result ≡ any_below 8 (λ s. get_or self.now.opens s false) }
-    {
-        for s in 0..SLOTS {
-            if self.opens[s] {
-                return true;
-            }
-        }
-        false
-    }
-
-    /// Whether a lock of `other` on the cell excludes one of `slot`, which is for writing where `writing`.
-    fn shuts_out(&self, slot: usize, cell: usize, writing: bool, other: usize) -> bool
-        requires cell { cell < 64 }
-        requires other { other < 8 }
-        ensures { result ≡ excludes (meaning_of self.now) slot cell writing other }
-    {
-        if other == slot || !self.opens[other] {
+        let Some(reads) = &self.slots[other] else {
             return false;
-        }
-        wrote(self.formers[cell], other) || (writing && self.reads[other][cell])
+        };
+        let former = self.formers[statement.cell() as usize];
+        other != slot && (wrote(former, other) || (statement.writes() && reads.contains(statement)))
     }
 
-    /// Whether a lock of any other slot on the cell excludes one of `slot`, which is for writing where `writing`.
-    pub(crate) fn is_busy(&self, slot: usize, cell: usize, writing: bool) -> bool
-        requires { cell < 64 }
-        ensures { result ≡ busy (meaning_of self.now) slot cell writing }
+    /// Whether a lock of any other slot on the statement's cell excludes the one that the statement needs in `slot`.
+    pub(crate) fn is_busy(&self, slot: usize, statement: &Statement) -> bool
+        ensures { result ≡ busy (meaning_of self.now) slot statement.now.cell (writes_cell statement.now.operation) }
     {
-        for t in 0..SLOTS {
-            if self.shuts_out(slot, cell, writing, t) {
-                return true;
-            }
-        }
-        false
+        (0..SLOTS).any(|other| self.shuts_out(slot, statement, other))
     }
 
-    /// Writes the cell, and so locks it for writing; a former value stays that of the first write.
-    pub(crate) fn write(&mut self, slot: usize, cell: usize, value: u64)
-        requires cell { cell < 64 }
-        requires slot { slot < 8 }
+    /// Writes the statement's cell, and so locks it for writing; a former value stays that of the first write.
+    pub(crate) fn write(&mut self, slot: usize, statement: &Statement, value: u64)
         requires opened { is_open (meaning_of self.old) slot ≡ true }
-        requires free { busy (meaning_of self.old) slot cell true ≡ false }
-        ensures { meaning_of self.new ≡ written_into same_unit (meaning_of self.old) slot cell value }
+        requires free { busy (meaning_of self.old) slot statement.now.cell true ≡ false }
+        ensures { meaning_of self.new ≡ written_into same_unit (meaning_of self.old) slot statement.now.cell value }
     {
+        let cell = statement.cell() as usize;
         let former = Former {
             slot,
             value: base(self.formers[cell], self.cells[cell]),
@@ -76,13 +45,14 @@ impl InPlace {
         self.cells[cell] = value;
     }
 
-    /// Locks the cell for reading.
-    pub(crate) fn look(&mut self, slot: usize, cell: usize)
-        requires cell { cell < 64 }
+    /// Locks the statement's cell for reading.
+    pub(crate) fn look(&mut self, slot: usize, statement: &Statement)
         requires slot { slot < 8 }
         requires opened { is_open (meaning_of self.old) slot ≡ true }
-        ensures { meaning_of self.new ≡ looked_at same_unit (meaning_of self.old) slot cell }
+        ensures { meaning_of self.new ≡ looked_at same_unit (meaning_of self.old) slot statement.now.cell }
     {
-        self.reads[slot][cell] = true;
+        if let Some(reads) = &mut self.slots[slot] {
+            reads.insert(statement);
+        }
     }
 }

@@ -3,9 +3,9 @@ ghost use Rattle.std.specs.Prelude.{◌≡◌};
 ghost use Rattle.replica.specs.Calls.{cleared};
 ghost use Rattle.in_place.specs.State.{meaning_of};
 
-use crate::cellwise::base;
+use crate::former::base;
 use crate::state::InPlace;
-use replica::{CELLS, Fault, Replica, SLOTS, replay};
+use replica::{CELLS, Fault, Replica, SLOTS, replay, slots};
 use statement::Statement;
 
 impl InPlace {
@@ -16,8 +16,7 @@ impl InPlace {
         InPlace {
             cells: [0; CELLS],
             formers: [None; CELLS],
-            opens: [false; SLOTS],
-            reads: [[false; CELLS]; SLOTS],
+            slots: [None; SLOTS],
             mark: 0,
         }
     }
@@ -27,18 +26,13 @@ impl Replica for InPlace {
     ghost meaning = { meaning_of };
 
     fn clear(&mut self) {
-        self.cells = [0; CELLS];
-        self.formers = [None; CELLS];
-        self.opens = [false; SLOTS];
-        self.mark = 0;
+        *self = InPlace::new();
     }
 
     fn cell(&self, cell: u64) -> Result<u64, Fault> {
         let c = cell as usize;
-        if c >= CELLS {
-            return Err(Fault::NoCell);
-        }
-        Ok(base(self.formers[c], self.cells[c]))
+        let written = self.cells.get(c).ok_or(Fault::NoCell)?;
+        Ok(base(self.formers[c], *written))
     }
 
     fn mark(&self) -> u64 {
@@ -46,14 +40,12 @@ impl Replica for InPlace {
     }
 
     fn intake(&mut self, statements: &[Statement], position: u64) -> Result<(), Fault> {
-        if self.any_open() {
+        if slots::any_open(&self.slots) {
             return Err(Fault::NotQuiet);
         }
-        if position == u64::MAX {
-            return Err(Fault::LastPosition);
-        }
+        let next = position.checked_add(1).ok_or(Fault::LastPosition)?;
         self.cells = replay(self.cells, statements);
-        self.mark = position + 1;
+        self.mark = next;
         Ok(())
     }
 }

@@ -3,8 +3,9 @@ ghost use Rattle.in_place.specs.State.{same_unit};
 ghost use Rattle.std.proofs.Common.{arith};
 
 use crate::cellwise::{base_all, release_all, restore_all};
+use crate::read_set::ReadSet;
 use crate::state::InPlace;
-use replica::{CELLS, Database, Fault, Replica, SLOTS};
+use replica::{CELLS, Database, Fault, Replica, SLOTS, slots};
 use statement::Statement;
 
 impl Database for InPlace {
@@ -16,59 +17,53 @@ impl Database for InPlace {
         if slot >= SLOTS {
             return Err(Fault::NoSlot);
         }
-        if self.is_open(slot) {
+        if slots::is_open(&self.slots, slot) {
             return Err(Fault::SlotOpen);
         }
-        self.opens[slot] = true;
-        self.reads[slot] = [false; CELLS];
+        self.slots[slot] = Some(ReadSet::new());
         Ok(())
     }
 
     fn run(&mut self, slot: usize, statement: &Statement) -> Result<u64, Fault> {
-        if !self.is_open(slot) {
+        if !slots::is_open(&self.slots, slot) {
             return Err(Fault::SlotClosed);
         }
-        let cell = statement.cell();
-        let writing = statement.writes();
-        let c = cell as usize;
-        if self.is_busy(slot, c, writing) {
-            return Err(Fault::Busy(cell));
+        if self.is_busy(slot, statement) {
+            return Err(Fault::Busy(statement.cell()));
         }
-        let effect = statement.apply(self.cells[c]);
-        if writing {
-            self.write(slot, c, effect.value);
+        let effect = statement.apply(self.cells[statement.cell() as usize]);
+        if statement.writes() {
+            self.write(slot, statement, effect.value);
         } else {
-            self.look(slot, c);
+            self.look(slot, statement);
         }
         Ok(effect.answer)
     }
 
     fn seal(&mut self, slot: usize, position: u64) -> Result<(), Fault> {
-        if !self.is_open(slot) {
+        if !slots::is_open(&self.slots, slot) {
             return Err(Fault::SlotClosed);
         }
-        if position == u64::MAX {
-            return Err(Fault::LastPosition);
-        }
+        let next = position.checked_add(1).ok_or(Fault::LastPosition)?;
         release_all(&mut self.formers, slot);
-        self.opens[slot] = false;
-        self.mark = position + 1;
+        self.slots[slot] = None;
+        self.mark = next;
         Ok(())
     }
 
     fn undo(&mut self, slot: usize) -> Result<(), Fault> {
-        if !self.is_open(slot) {
+        if !slots::is_open(&self.slots, slot) {
             return Err(Fault::SlotClosed);
         }
         restore_all(&mut self.cells, &self.formers, slot);
         release_all(&mut self.formers, slot);
-        self.opens[slot] = false;
+        self.slots[slot] = None;
         Ok(())
     }
 
     fn lose(&mut self) {
         base_all(&mut self.cells, &self.formers);
         self.formers = [None; CELLS];
-        self.opens = [false; SLOTS];
+        self.slots = [None; SLOTS];
     }
 }

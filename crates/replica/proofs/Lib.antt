@@ -5,3 +5,4 @@ pub mod Refused
 pub mod Ran
 pub mod Finishing
 pub mod Updates
+pub mod Made

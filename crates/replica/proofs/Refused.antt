@@ -1,8 +1,10 @@
 -- Which refusal there is, from what was tested.
-use Rattle.std.proofs.Common.{◌≡◌, ℕ, ◌<◌, ◌≤◌, Bool, true, false, not, ltb, Some, None, ap, ◌∙◌}
+use Rattle.std.proofs.Common.{◌≡◌, ℕ, ◌+◌, ◌^◌, ◌<◌, ◌≤◌, Bool, true, false, not, ltb, Some, None, Ok, Err, Option, Result, ap, ◌∙◌, arith}
+use Rattle.std.specs.Option.{SomeIff, ok_or}
 use Rattle.std.proofs.lemmas.Bool.{cond-true, cond-false, lt-ltb, le-ltb, eq-eqb, ne_eqb}
 use Rattle.statement.specs.declared.checked.Statement.{Statement}
 use Rattle.statement.specs.Operations.{writes_cell}
+use Rattle.replica.specs.declared.faults.Fault.{Fault}
 use Rattle.replica.specs.declared.faults.Fault.TheVariants.{NoSlot, SlotOpen, SlotClosed, Busy, NotQuiet, LastPosition}
 use Rattle.replica.specs.Meanings.{Meaning, is_open, busy, quiet}
 use Rattle.replica.specs.Refusals.{last, open_refusal, run_refusal, seal_refusal, undo_refusal, intake_refusal}
@@ -63,3 +65,15 @@ module _ (m : Meaning) (s : ℕ) where
   pub intake_free : (p : ℕ) (b : Bool) → quiet m ≡ not b → b ≡ false → (p ≡ 18446744073709551615 → ⊥) → intake_refusal m p ≡ None
   unfolding intake_refusal
   intake_free p b e h n = cond-true (quiet m) _ _ (e ∙ ap not h) ∙ cond-false (last p) _ _ (ne_eqb p 18446744073709551615 n)
+
+-- one past the position, where it has a successor
+module _ (p : ℕ) (fits : p < 2 ^ 64) where
+  pub no_next : (o : Option ℕ) (r : Result ℕ Fault) (e : Fault) → SomeIff o (p + 1 < 2 ^ 64) (p + 1) → r ≡ ok_or o LastPosition → r ≡ Err e → (p ≡ 18446744073709551615) × (e ≡ LastPosition)
+  no_next None r e last made was = (omega arith, cc)
+  no_next (Some x) r e next made was = cc
+
+  pub next_is : (o : Option ℕ) (r : Result ℕ Fault) (v : ℕ) → SomeIff o (p + 1 < 2 ^ 64) (p + 1) → r ≡ ok_or o LastPosition → r ≡ Ok v → (p ≡ 18446744073709551615 → ⊥) × (v ≡ p + 1)
+  next_is None r v last made was = cc
+  next_is (Some x) r v next made was =
+      let e : v ≡ x = cc in
+      (λ l. omega arith, e ∙ next.1)

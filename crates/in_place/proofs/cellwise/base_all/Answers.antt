@@ -1,5 +1,6 @@
-use Rattle.std.proofs.Common.{◌≡◌, length, get_or, None, sym, ap, rules}
-use Rattle.replica.proofs.Indices.{all_filled, past_64}
+use Rattle.std.proofs.Common.{get_or, None, refl, arith, rules}
+use Rattle.std.proofs.lemmas.List.{get_or_past}
+use Rattle.replica.proofs.Made.{made_by}
 use Rattle.in_place.specs.Parts.{committed}
 use Rattle.in_place.proofs.cellwise.base_all.Goals as goal
 
@@ -7,6 +8,5 @@ pub returns : goal.returns
 returns c =
     let formers = c.args.formers.now in
     let cells = c.args.cells.now in
-    let long : length c.args.formers.now ≡ 64 = search rules in
-    all_filled (λ k. get_or c.loop-c.cells k 0) (λ k. committed (get_or formers k None) (get_or cells k 0)) (λ k. get_or cells k 0) c.loop-c.c c.loop-c-test.false c.loop-c.invariant.1
-    (λ k h. ap (λ o. committed o (get_or cells k 0)) (sym (past_64 formers None long k h)))
+    made_by _ _ (λ k. committed (get_or formers k None) (get_or cells k 0)) 0 (λ i y q e. search rules) c.from_fn.result 64 c.from_fn.ensures.items
+    (λ k past. rw (get_or_past formers k None (omega arith), get_or_past cells k 0 (omega arith)) refl)

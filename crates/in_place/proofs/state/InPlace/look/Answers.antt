@@ -1,14 +1,9 @@
-use Rattle.std.proofs.Common.{◌≡◌, ◌<◌, true, false, [], length, get_or, sym, ◌∙◌, arith, rules}
-use Rattle.in_place.proofs.Means.{open_is}
+use Rattle.std.proofs.Common.{◌≡◌, length, rules}
 use Rattle.in_place.proofs.Moves.{look_means}
 use Rattle.in_place.proofs.state.InPlace.look.Goals as goal
 
-pub returns : goal.returns
-returns c =
+pub returns-in-Some : goal.returns-in-Some
+returns-in-Some c =
     let d = c.args.self.now in
-    let s = c.args.slot in
-    let long : length d.opens ≡ 8 = search rules in
-    let wide : length d.reads ≡ 8 = search rules in
-    let inside : c.args.cell < length (get_or d.reads s []) = omega (arith, d.rows s c.requires.slot, c.requires.cell) in
-    let o : get_or d.opens s false ≡ true = sym (open_is d s) ∙ c.requires.opened in
-    look_means d long s c.requires.slot wide c.args.cell inside o
+    let long : length d.slots ≡ 8 = search rules in
+    look_means d long c.args.slot c.in-Some.reads c.in-Some.is c.args.statement.now.cell c.insert.new.self c.insert.ensures

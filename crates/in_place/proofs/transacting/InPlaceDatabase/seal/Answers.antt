@@ -1,23 +1,34 @@
-use Rattle.std.proofs.Common.{◌≡◌, length, sym, refl, rules}
-use Rattle.replica.proofs.Refused.{seal_closed, seal_last, seal_free}
+use Rattle.std.proofs.Common.{◌≡◌, length, get_or, set, None, sym, refl, ap, ◌∙◌, rules}
+use Rattle.std.proofs.lemmas.Result.{err_from_is_err_and}
+use Rattle.replica.proofs.Refused.{seal_closed, seal_last, seal_free, no_next, next_is}
+use Rattle.in_place.specs.Parts.{means}
 use Rattle.in_place.specs.State.{meaning_of}
-use Rattle.in_place.proofs.Moves.{seal_means}
+use Rattle.in_place.proofs.Means.{open_is}
+use Rattle.in_place.proofs.Moves.{open_holds, seal_means}
 use Rattle.in_place.proofs.transacting.InPlaceDatabase.seal.Goals as goal
 
 pub returns-then-not-is_open : goal.returns-then-not-is_open
-returns-then-not-is_open c = (seal_closed (meaning_of c.args.self.now) c.args.slot c.args.position (sym c.if-not-is_open.ensures.value), refl)
+returns-then-not-is_open c =
+    let d = c.args.self.now in
+    (seal_closed (meaning_of d) c.args.slot c.args.position (open_is d c.args.slot ∙ sym c.if-not-is_open.ensures), refl)
 
-pub returns-then-position-eq18446744073709551615 : goal.returns-then-position-eq18446744073709551615
-returns-then-position-eq18446744073709551615 c = (seal_last (meaning_of c.args.self.now) c.args.slot c.args.position (sym c.if-not-is_open.ensures.value) c.if-position-eq18446744073709551615.true, refl)
+pub returns-in_err-next : goal.returns-in_err-next
+returns-in_err-next c =
+    let d = c.args.self.now in
+    let p = err_from_is_err_and c.from_residual.result c.from_residual.ensures.1 in
+    let why = no_next c.args.position c.ranges.position.fits c.checked_add.result c.ok_or.result c.in_err-next.field-0.0 c.checked_add.ensures c.ok_or.ensures.value (c.in_err-next.was) in
+    rw (p.1, p.2, why.1) (seal_last (meaning_of d) c.args.slot c.args.position (open_is d c.args.slot ∙ sym c.if-not-is_open.ensures) why.0, refl)
 
 pub returns : goal.returns
 returns c =
     let d = c.args.self.now in
     let s = c.args.slot in
     let p = c.args.position in
-    let was = c.if-not-is_open.ensures in
-    let long : length d.opens ≡ 8 = search rules in (
-      seal_free (meaning_of d) s p (sym was.value) c.if-position-eq18446744073709551615.false,
+    let was = sym c.if-not-is_open.ensures in
+    let long : length d.slots ≡ 8 = search rules in
+    let held = open_holds (get_or d.slots s None) was in
+    let next = next_is p c.ranges.position.fits c.checked_add.result c.ok_or.result c.in_ok-next.next c.checked_add.ensures c.ok_or.ensures.value (c.in_ok-next.was) in (
+      seal_free (meaning_of d) s p (open_is d s ∙ was) next.0,
       tt,
-      seal_means d long s (was.bound refl) c.release_all.new.formers p c.release_all.ensures.each (sym was.flag),
+      ap (means d.cells c.release_all.new.formers (set d.slots s None)) next.1 ∙ seal_means d long s held.0 held.1 c.release_all.new.formers p c.release_all.ensures,
     )
