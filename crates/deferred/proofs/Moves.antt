@@ -1,7 +1,10 @@
 -- What each call makes of the meaning, from what it makes of the cells, the slots and the mark.
-use Rattle.std.proofs.Common.{◌≡◌, ℕ, ◌+◌, ◌<◌, Bool, true, false, cond, eqb, List, length, get_or, set, replicate, Some, None, Option, sym, refl, ap, ◌∙◌, arith}
+use Rattle.std.proofs.Common.{◌≡◌, ℕ, ◌+◌, ◌<◌, Bool, true, false, cond, eqb, List, length, get_or, set, replicate, is_some, not, Some, None, Option, sym, refl, ap, ◌∙◌, ⊎_elim, arith}
+use mathlib.Core.Path.{fun_ext}
+use Rattle.std.proofs.lemmas.List.{get_or_past}
+use Rattle.std.proofs.lemmas.Bool.{cases_lt, true≢false}
 use Rattle.statement.specs.declared.checked.Statement.{Statement}
-use Rattle.replica.specs.Meanings.{Slot, put, slot_of, current, fresh, or_else, all_stepped}
+use Rattle.replica.specs.Meanings.{Slot, put, is_open, quiet, any_below, slot_of, current, fresh, or_else, all_stepped}
 use Rattle.replica.specs.Calls.{cleared, taken_in, opened, written_into, looked_at, sealed, undone, lost}
 use Rattle.replica.proofs.Indices.{set_at, all_same}
 use Rattle.replica.proofs.Same.{same_meaning}
@@ -9,6 +12,21 @@ use Rattle.deferred.specs.declared.transaction.Transaction.{Transaction}
 use Rattle.deferred.specs.Units.{unit_of_eight}
 use Rattle.deferred.specs.Shown.{shown, shown_of, with_write, with_read}
 use Rattle.deferred.specs.Means.{means}
+
+-- a slot is shown open where it is
+pub open_is : (cells : List ℕ) (slots : List (Option Transaction)) (mark s : ℕ) → is_open (means cells slots mark) s ≡ is_some (get_or slots s None)
+open_is cells slots mark s = by (get_or slots s None)
+  where
+    by : (o : Option Transaction) → is_some (shown_of o) ≡ is_some o
+    by None = refl
+    by (Some t) = refl
+
+pub quiet_is : (cells : List ℕ) (slots : List (Option Transaction)) (mark : ℕ) → quiet (means cells slots mark) ≡ not (any_below 8 (λ s. is_some (get_or slots s None)))
+quiet_is cells slots mark = ap (λ p. not (any_below 8 p)) (fun_ext (open_is cells slots mark))
+
+-- an open slot is below 8
+pub open_below : (slots : List (Option Transaction)) → length slots ≡ 8 → (s : ℕ) → is_some (get_or slots s None) ≡ true → s < 8
+open_below slots long s o = ⊎_elim (λ h. h) (λ h. absurd (true≢false (sym o ∙ ap is_some (get_or_past slots s None (omega arith))))) (cases_lt s 8)
 
 -- new and clear
 pub clear_means : means (replicate 64 0) (replicate 8 None) 0 ≡ cleared

@@ -4,7 +4,7 @@ ghost use Rattle.replica.specs.Calls.{cleared};
 ghost use Rattle.deferred.specs.Means.{meaning_of};
 
 use crate::state::Deferred;
-use replica::{CELLS, Fault, Replica, SLOTS, replay};
+use replica::{CELLS, Fault, Replica, SLOTS, replay, slots};
 use statement::Statement;
 
 impl Deferred {
@@ -28,11 +28,7 @@ impl Replica for Deferred {
     }
 
     fn cell(&self, cell: u64) -> Result<u64, Fault> {
-        if cell < CELLS as u64 {
-            Ok(self.cells[cell as usize])
-        } else {
-            Err(Fault::NoCell)
-        }
+        self.cells.get(cell as usize).copied().ok_or(Fault::NoCell)
     }
 
     fn mark(&self) -> u64 {
@@ -40,14 +36,12 @@ impl Replica for Deferred {
     }
 
     fn intake(&mut self, statements: &[Statement], position: u64) -> Result<(), Fault> {
-        if self.any_open() {
+        if slots::any_open(&self.slots) {
             return Err(Fault::NotQuiet);
         }
-        if position == u64::MAX {
-            return Err(Fault::LastPosition);
-        }
+        let next = position.checked_add(1).ok_or(Fault::LastPosition)?;
         self.cells = replay(self.cells, statements);
-        self.mark = position + 1;
+        self.mark = next;
         Ok(())
     }
 }

@@ -1,6 +1,4 @@
 //! The committed cells, the slots and the mark.
-ghost use Rattle.std.specs.Prelude.{◌≡◌, length};
-
 use crate::transaction::Transaction;
 use replica::{CELLS, SLOTS};
 
@@ -10,5 +8,4 @@ pub struct Deferred {
     pub(crate) cells: [u64; CELLS],
     pub(crate) slots: [Option<Transaction>; SLOTS],
     pub(crate) mark: u64,
-    ghost slots_long: { length slots ≡ 8 },
 }

@@ -4,8 +4,7 @@ ghost use Rattle.std.proofs.Common.{arith};
 
 use crate::state::Deferred;
 use crate::transaction::Transaction;
-use crate::units::unit;
-use replica::{Database, Fault, Replica, SLOTS};
+use replica::{Database, Fault, Replica, SLOTS, slots};
 use statement::Statement;
 
 impl Database for Deferred {
@@ -17,7 +16,7 @@ impl Database for Deferred {
         if slot >= SLOTS {
             return Err(Fault::NoSlot);
         }
-        if self.is_open(slot) {
+        if slots::is_open(&self.slots, slot) {
             return Err(Fault::SlotOpen);
         }
         self.slots[slot] = Some(Transaction::new());
@@ -25,42 +24,39 @@ impl Database for Deferred {
     }
 
     fn run(&mut self, slot: usize, statement: &Statement) -> Result<u64, Fault> {
-        if !self.is_open(slot) {
+        if !slots::is_open(&self.slots, slot) {
             return Err(Fault::SlotClosed);
         }
         let cell = statement.cell();
-        let writing = statement.writes();
-        if self.is_busy(slot, unit(cell), writing) {
+        if self.is_busy(slot, statement) {
             return Err(Fault::Busy(cell));
         }
         let committed = self.cells[cell as usize];
         let Some(transaction) = &mut self.slots[slot] else {
             return Err(Fault::SlotClosed);
         };
-        let effect = statement.apply(transaction.sees(cell, committed));
-        if writing {
-            transaction.write(cell, effect.value);
+        let effect = statement.apply(transaction.sees(statement, committed));
+        if statement.writes() {
+            transaction.write(statement, effect.value);
         } else {
-            transaction.read(cell);
+            transaction.read(statement);
         }
         Ok(effect.answer)
     }
 
     fn seal(&mut self, slot: usize, position: u64) -> Result<(), Fault> {
-        if !self.is_open(slot) {
+        if !slots::is_open(&self.slots, slot) {
             return Err(Fault::SlotClosed);
         }
-        if position == u64::MAX {
-            return Err(Fault::LastPosition);
-        }
+        let next = position.checked_add(1).ok_or(Fault::LastPosition)?;
         self.cells = self.seen(slot);
-        self.mark = position + 1;
+        self.mark = next;
         self.close(slot);
         Ok(())
     }
 
     fn undo(&mut self, slot: usize) -> Result<(), Fault> {
-        if !self.is_open(slot) {
+        if !slots::is_open(&self.slots, slot) {
             return Err(Fault::SlotClosed);
         }
         self.close(slot);

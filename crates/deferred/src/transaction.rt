@@ -9,6 +9,5 @@ mod keeping;
 pub(crate) struct Transaction {
     reads: [bool; UNITS],
     writes: [bool; UNITS],
-    written: [bool; CELLS],
-    values: [u64; CELLS],
+    own: [Option<u64>; CELLS],
 }

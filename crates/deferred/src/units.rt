@@ -2,17 +2,18 @@
 ghost use Rattle.std.specs.Prelude.{◌≡◌, ◌<◌};
 ghost use Rattle.deferred.specs.Units.{unit_of_eight};
 
+use statement::Statement;
+
 /// The units of a database, numbered from 0.
 pub(crate) const UNITS: usize = 8;
 
 /// The cells of a unit.
 const UNIT_CELLS: u64 = 8;
 
-/// The unit of a cell.
-pub(crate) fn unit(cell: u64) -> usize
-    requires { cell < 64 }
-    ensures value { result ≡ unit_of_eight cell }
+/// The unit of the statement's cell.
+pub(crate) fn unit(statement: &Statement) -> usize
+    ensures value { result ≡ unit_of_eight statement.now.cell }
     ensures bound { result < 8 }
 {
-    (cell / UNIT_CELLS) as usize
+    (statement.cell() / UNIT_CELLS) as usize
 }

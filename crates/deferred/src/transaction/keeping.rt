@@ -1,5 +1,6 @@
 //! What an open slot sees, excludes and keeps.
-ghost use Rattle.std.specs.Prelude.{◌≡◌, ℕ, ◌<◌, ◌&&◌, ◌||◌, slice_index};
+ghost use Rattle.std.specs.Prelude.{◌≡◌, ℕ, ◌&&◌, ◌||◌, slice_index};
+ghost use Rattle.statement.specs.Operations.{writes_cell};
 ghost use Rattle.replica.specs.Meanings.{fresh, or_else};
 ghost use Rattle.deferred.specs.Units.{unit_of_eight};
 ghost use Rattle.deferred.specs.Shown.{shown, with_write, with_read};
@@ -7,6 +8,8 @@ ghost use Rattle.deferred.specs.Shown.{shown, with_write, with_read};
 use super::Transaction;
 use crate::units::{UNITS, unit};
 use replica::CELLS;
+use statement::Statement;
+use std::array;
 
 impl Transaction {
     /// A slot with no lock and no value.
@@ -16,59 +19,44 @@ impl Transaction {
         Transaction {
             reads: [false; UNITS],
             writes: [false; UNITS],
-            written: [false; CELLS],
-            values: [0; CELLS],
+            own: [None; CELLS],
         }
     }
 
-    /// Its own value of a cell, or the committed one where it has none.
-    pub(crate) fn sees(&self, cell: u64, committed: u64) -> u64
-        requires { cell < 64 }
-        ensures { result ≡ or_else ((shown self.now).own cell) committed }
+    /// Its own value of the statement's cell, or the committed one where it has none.
+    pub(crate) fn sees(&self, statement: &Statement, committed: u64) -> u64
+        ensures { result ≡ or_else ((shown self.now).own statement.now.cell) committed }
     {
-        if self.written[cell as usize] {
-            self.values[cell as usize]
-        } else {
-            committed
-        }
+        self.own[statement.cell() as usize].unwrap_or(committed)
     }
 
-    /// Whether its locks on the unit exclude another slot that wants to read, or to write where `writing`.
-    pub(crate) fn excludes(&self, unit: usize, writing: bool) -> bool
-        requires { unit < 8 }
-        ensures { result ≡ ((shown self.now).writes unit || (writing && (shown self.now).reads unit)) }
+    /// Whether its locks exclude the one that another slot needs for the statement.
+    pub(crate) fn excludes(&self, statement: &Statement) -> bool
+        ensures { let u = unit_of_eight statement.now.cell in result ≡ ((shown self.now).writes u || (writes_cell statement.now.operation && (shown self.now).reads u)) }
     {
-        self.writes[unit] || (writing && self.reads[unit])
+        let unit = unit(statement);
+        self.writes[unit] || (statement.writes() && self.reads[unit])
     }
 
-    /// Locks the cell's unit for writing, and keeps a value of the cell.
-    pub(crate) fn write(&mut self, cell: u64, value: u64)
-        requires { cell < 64 }
-        ensures { shown self.new ≡ with_write (shown self.old) (unit_of_eight cell) cell value }
+    /// Locks the unit of the statement's cell for writing, and keeps a value of the cell.
+    pub(crate) fn write(&mut self, statement: &Statement, value: u64)
+        ensures { shown self.new ≡ with_write (shown self.old) (unit_of_eight statement.now.cell) statement.now.cell value }
     {
-        self.writes[unit(cell)] = true;
-        self.written[cell as usize] = true;
-        self.values[cell as usize] = value;
+        self.writes[unit(statement)] = true;
+        self.own[statement.cell() as usize] = Some(value);
     }
 
-    /// Locks the cell's unit for reading.
-    pub(crate) fn read(&mut self, cell: u64)
-        requires { cell < 64 }
-        ensures { shown self.new ≡ with_read (shown self.old) (unit_of_eight cell) }
+    /// Locks the unit of the statement's cell for reading.
+    pub(crate) fn read(&mut self, statement: &Statement)
+        ensures { shown self.new ≡ with_read (shown self.old) (unit_of_eight statement.now.cell) }
     {
-        self.reads[unit(cell)] = true;
+        self.reads[unit(statement)] = true;
     }
 
     /// The cells, with its own value where it has one.
     pub(crate) fn overlay(&self, cells: [u64; CELLS]) -> [u64; CELLS]
         ensures { (k : ℕ) → slice_index result k ≡ or_else ((shown self.now).own k) (slice_index cells k) }
     {
-        let mut after = cells;
-        for cell in 0..CELLS {
-            if self.written[cell] {
-                after[cell] = self.values[cell];
-            }
-        }
-        after
+        array::from_fn(|c| self.own[c].unwrap_or(cells[c]))
     }
 }
