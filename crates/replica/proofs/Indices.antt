@@ -1,9 +1,9 @@
 -- Lists read as functions of the index.
-use Rattle.std.proofs.Common.{◌≡◌, ℕ, zero, suc, ◌+◌, ◌<◌, ◌≤◌, Bool, true, false, cond, ◌||◌, ltb, List, length, get_or, set, replicate, Option, sym, refl, ap, ◌∙◌, ⊎_elim, add-one, add-zero, zero-add, arith}
+use Rattle.std.proofs.Common.{◌≡◌, ℕ, zero, suc, ◌+◌, ◌<◌, ◌≤◌, Bool, true, false, ◌||◌, List, length, get_or, set, replicate, Option, sym, refl, ap, ◌∙◌, ⊎_elim, add-one, add-zero, zero-add, arith}
 use mathlib.Core.Path.{fun_ext}
 use lib.ListN.{length-replicate}
 use Rattle.std.proofs.lemmas.List.{get_or-set_same, get_or-set_other, get_or-replicate, get_or_past}
-use Rattle.std.proofs.lemmas.Bool.{cases_eq, cases_lt, cases_Bool, or_from, eq-eqb, ne_eqb, true≢false, lt-ltb, le-ltb}
+use Rattle.std.proofs.lemmas.Bool.{cases_eq, cases_lt, or_from, eq-eqb, ne_eqb, true≢false}
 use Rattle.std.proofs.lemmas.Iterator.{YieldsList-from_range}
 use Rattle.std.proofs.lemmas.Iterator.Search.{any_from_yields_List}
 use Rattle.std.proofs.iter.Yields.{nat_range_steps}
@@ -43,21 +43,6 @@ any_none (suc n) p none k h = ⊎_elim (λ (e : k ≡ n). rw e (first (p n) (any
     second : (a b : Bool) → (a || b) ≡ false → b ≡ false
     second true b e = absurd (true≢false e)
     second false b e = e
-
--- a loop that wrote g at each place below n is through
-pub all_filled : {X : Type 0} (a g h : ℕ → X) (n : ℕ) → 64 ≤ n → ((k : ℕ) → a k ≡ cond (ltb k n) (g k) (h k)) → ((k : ℕ) → 64 ≤ k → h k ≡ g k) → (k : ℕ) → a k ≡ g k
-all_filled a g h n past each beyond k =
-    ⊎_elim
-    (λ (l : k < n). each k ∙ ap (λ b. cond b (g k) (h k)) (lt-ltb k n l))
-    (λ (l : n ≤ k). each k ∙ ap (λ b. cond b (g k) (h k)) (le-ltb k n l) ∙ beyond k (omega arith))
-    (cases_lt k n)
-
-pub past_64 : {X : Type 0} (xs : List X) (d : X) → length xs ≡ 64 → (k : ℕ) → 64 ≤ k → get_or xs k d ≡ d
-past_64 xs d long k h = get_or_past xs k d (omega arith)
-
--- one that is found
-pub any_found : (n : ℕ) (p : ℕ → Bool) (k : ℕ) → k < n → p k ≡ true → any_below n p ≡ true
-any_found n p k h e = ⊎_elim (λ x. x) (λ f. absurd (true≢false (sym e ∙ any_none n p f k h))) (cases_Bool (any_below n p))
 
 pub none_more : (n : ℕ) (p : ℕ → Bool) → any_below n p ≡ false → p n ≡ false → any_below (n + 1) p ≡ false
 none_more n p none here = any_more n p ∙ or_from (p n) (any_below n p) here none

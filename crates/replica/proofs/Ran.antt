@@ -1,15 +1,12 @@
 -- A run, put together from what its parts gave.
-use Rattle.std.proofs.Common.{◌≡◌, ℕ, Bool, true, false, sym, ap, ◌∙◌}
+use Rattle.std.proofs.Common.{◌≡◌, ℕ, true, false, sym, ap, ◌∙◌}
 use Rattle.std.proofs.lemmas.Bool.{cond-true, cond-false}
 use Rattle.statement.specs.declared.checked.Statement.{Statement}
 use Rattle.statement.specs.Operations.{writes_cell, changed, answered}
-use Rattle.replica.specs.Meanings.{Meaning, busy, current}
+use Rattle.replica.specs.Meanings.{Meaning, current}
 use Rattle.replica.specs.Calls.{written_into, looked_at, ran, run_answer}
 
 module _ (unit : ℕ → ℕ) (m : Meaning) (s : ℕ) (st : Statement) (c : ℕ) (same : c ≡ st.cell) where
-  pub busy_at : (w b : Bool) → w ≡ writes_cell st.operation → b ≡ busy m s (unit c) w → busy m s (unit st.cell) (writes_cell st.operation) ≡ b
-  busy_at w b e h = sym (h ∙ ap (λ k. busy m s (unit k) w) same ∙ ap (busy m s (unit st.cell)) e)
-
   pub ran_answer : (a : ℕ) → a ≡ answered st.operation (current m s c) → a ≡ run_answer m s st
   unfolding run_answer
   ran_answer a h = h ∙ ap (λ k. answered st.operation (current m s k)) same

@@ -93,9 +93,8 @@ impl Broadcast for OldestFirst {
     ///
     /// Refused exactly where the position is at or past the count of ordered messages.
     fn message_at(&self, position: u64) -> Result<&Message, NotOrdered> {
-        if position >= self.ordered_count() {
-            return Err(NotOrdered);
-        }
-        Ok(&self.messages[position as usize])
+        self.messages[..self.count]
+            .get(position as usize)
+            .ok_or(NotOrdered)
     }
 }

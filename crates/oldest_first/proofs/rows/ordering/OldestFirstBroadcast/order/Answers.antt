@@ -1,14 +1,7 @@
 -- One more ordered message is the first of the waiting ones.
-use Rattle.std.proofs.Common.{◌<◌, ◌≤◌, length, refl, arith}
-use Rattle.oldest_first.proofs.Parts.{first_moved, moved, none_left}
+use Rattle.std.proofs.Common.{◌<◌, length, refl, arith}
+use Rattle.oldest_first.proofs.Parts.{first_moved, moved}
 use Rattle.oldest_first.proofs.rows.ordering.OldestFirstBroadcast.order.Goals as goal
-
-pub returns-then-self-len : goal.returns-then-self-len
-returns-then-self-len c =
-    let n = c.args.self.now.count in
-    let xs = c.args.self.now.messages.items in
-    let h : length xs ≤ n = omega arith in
-    record { moved = (none_left n xs h, refl, refl); capacity = refl; oldest = tt }
 
 pub returns : goal.returns
 returns c =
