@@ -31,24 +31,15 @@ impl InTurn {
     fn oldest_in(&self, line: usize) -> Option<usize>
         ensures { MatchOption result (Empty line (waiting_of self.now)) (OldestIn line (waiting_of self.now)) }
     {
-        for (place, message) in self.waiting.iter().enumerate() {
-            if line_of(message) == line {
-                return Some(place);
-            }
-        }
-        None
+        self.waiting
+            .iter()
+            .position(|message| line_of(message) == line)
     }
 
     // The place of the message to order next: the oldest of the first line, from the one whose turn it is, that is not empty.
     pub(super) fn chosen(&self) -> Option<usize>
         ensures { MatchOption result (waiting_of self.now ≡ []) (Chosen (turn_of self.now) (waiting_of self.now)) }
     {
-        for steps in 0..LINES {
-            let found = self.oldest_in((self.next + steps) % LINES);
-            if found.is_some() {
-                return found;
-            }
-        }
-        None
+        (0..LINES).find_map(|steps| self.oldest_in((self.next + steps) % LINES))
     }
 }

@@ -81,9 +81,7 @@ impl Broadcast for InTurn {
         ensures capacity { capacity_of self.new ≡ capacity_of self.old }
         ensures turn { Taken self.old self.new result }
     {
-        let Some(place) = self.chosen() else {
-            return Err(NothingWaits);
-        };
+        let place = self.chosen().ok_or(NothingWaits)?;
         let position = self.ordered_count();
         let message = self.waiting.remove(place);
         self.next = (line_of(&message) + 1) % LINES;
@@ -105,9 +103,6 @@ impl Broadcast for InTurn {
     ///
     /// Refused exactly where the position is at or past the count of ordered messages.
     fn message_at(&self, position: u64) -> Result<&Message, NotOrdered> {
-        if position >= self.ordered_count() {
-            return Err(NotOrdered);
-        }
-        Ok(&self.ordered[position as usize])
+        self.ordered.get(position as usize).ok_or(NotOrdered)
     }
 }

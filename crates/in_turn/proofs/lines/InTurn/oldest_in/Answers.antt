@@ -1,22 +1,16 @@
 -- The first message of the line that the search meets is the oldest; where it meets none, the line is empty.
-use Rattle.std.proofs.Common.{sym, ◌∙◌, arith, below_more}
+use Rattle.std.proofs.Common.{◌≡◌, rules}
+use Rattle.std.proofs.lemmas.Iterator.{YieldsList-from_slice, IsFirst-from_position}
+use Rattle.message.specs.declared.messages.Message.{Message}
 use Rattle.message.specs.Messages.{msg_of}
-use Rattle.in_turn.specs.Turns.{waiting_of}
-use Rattle.in_turn.proofs.Places.{read_at, other_line, empty_line}
-use Rattle.std.proofs.lemmas.List.{length-map}
+use Rattle.in_turn.specs.Turns.{line_of}
+use Rattle.in_turn.proofs.Places.{oldest_by}
 use Rattle.in_turn.proofs.lines.InTurn.oldest_in.Goals as goal
-
-pub returns-then-line_of-line : goal.returns-then-line_of-line
-returns-then-line_of-line c =
-    let there = read_at _ c.args.self.now.waiting.items c.loop-place.place c.message-item.result c.deref-message-items.ensures.value c.loop-place-test.true c.message-item.is in
-    ((msg_of c.message-item.result, there, sym c.line_of.ensures ∙ c.if-line_of-line.true), c.loop-place.invariant)
-
-pub loop-place-preserved : goal.loop-place-preserved
-loop-place-preserved c =
-    let there = read_at _ c.args.self.now.waiting.items c.loop-place.place c.message-item.result c.deref-message-items.ensures.value c.loop-place-test.true c.message-item.is in
-    below_more _ _ c.loop-place.invariant (other_line c.args.line (waiting_of c.args.self.now) c.loop-place.place _ there (λ e. c.if-line_of-line.false (c.line_of.ensures ∙ e)))
 
 pub returns : goal.returns
 returns c =
-    let s = c.args.self.now in
-    empty_line c.args.line (waiting_of s) c.loop-place.place (omega (arith, length-map s.waiting.items msg_of)) c.loop-place.invariant
+    let xs = c.args.self.now.waiting.items in
+    let line = c.args.line in
+    oldest_by line xs c.position.result
+    (IsFirst-from_position _ _ c.position.result (λ (m : Message). line_of (msg_of m) ≡ line) (λ (m : Message). line_of (msg_of m) ≡ line → ⊥) c.position.ensures.ran
+    (YieldsList-from_slice xs (search rules)) (λ x q k. search rules) (λ x q k. search rules))
