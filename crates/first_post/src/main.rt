@@ -26,7 +26,7 @@ fn post(drawing: u64, member: u64) -> Result<[Statement; 3], Missing> {
 }
 
 /// Prints a call that answers nothing.
-fn show(rt: &HostRuntime, call: &str, outcome: Result<(), Fault>) -> io::Result<()> {
+fn show(rt: &impl Print, call: &str, outcome: Result<(), Fault>) -> io::Result<()> {
     match outcome {
         Ok(()) => println!(rt; "{call} -> ok"),
         Err(fault) => println!(rt; "{call} -> {fault}"),
@@ -35,7 +35,7 @@ fn show(rt: &HostRuntime, call: &str, outcome: Result<(), Fault>) -> io::Result<
 
 /// Runs a statement in a slot and prints it with its answer.
 fn run<D: Database>(
-    rt: &HostRuntime,
+    rt: &impl Print,
     database: &mut D,
     slot: usize,
     statement: &Statement,
@@ -48,7 +48,7 @@ fn run<D: Database>(
 
 /// A post in slot 0 of the first database, with a second client in slot 1; then the second database takes the post in.
 fn office<L: Database, F: Replica>(
-    rt: &HostRuntime,
+    rt: &impl Print,
     leader: &mut L,
     follower: &mut F,
     work: &[Statement; 3],
@@ -77,32 +77,24 @@ fn office<L: Database, F: Replica>(
     Ok(())
 }
 
-/// Prints a cell of both databases.
-fn compare<A: Replica, B: Replica>(
-    rt: &HostRuntime,
-    name: &str,
-    cell: u64,
-    a: &A,
-    b: &B,
-) -> io::Result<()> {
-    let left = a.cell(cell).unwrap_or(0);
-    let right = b.cell(cell).unwrap_or(0);
-    println!(rt; "{name} (cell {cell}): {left} {right}")
-}
-
 /// Prints cells and marks of both databases side by side.
-fn side_by_side<A: Replica, B: Replica>(rt: &HostRuntime, a: &A, b: &B) -> io::Result<()> {
-    compare(rt, "posts", POSTS, a, b)?;
-    compare(rt, "pinned", PINNED, a, b)?;
-    compare(rt, "members", MEMBERS, a, b)?;
-    compare(rt, "other room", OTHER_ROOM, a, b)?;
-    let left = a.mark();
-    let right = b.mark();
-    println!(rt; "mark: {left} {right}")
+fn side_by_side<A: Replica, B: Replica>(rt: &impl Print, a: &A, b: &B) -> anyhow::Result<()> {
+    for (name, cell) in [
+        ("posts", POSTS),
+        ("pinned", PINNED),
+        ("members", MEMBERS),
+        ("other room", OTHER_ROOM),
+    ] {
+        let left = a.cell(cell)?;
+        let right = b.cell(cell)?;
+        println!(rt; "{name} (cell {cell}): {left} {right}")?;
+    }
+    println!(rt; "mark: {} {}", a.mark(), b.mark())?;
+    Ok(())
 }
 
 /// Two posts: the first is made in place and taken in by the deferred database, the second the other way round.
-fn day(rt: &HostRuntime) -> anyhow::Result<()> {
+fn day(rt: &impl Print) -> anyhow::Result<()> {
     let mut in_place = InPlace::new();
     let mut deferred = Deferred::new();
     println!(rt; "== a post on the in-place database")?;
