@@ -1,15 +1,14 @@
 -- A transaction in a slot: its runs one after another, and what a slot that is undone leaves.
-use Rattle.std.proofs.Common.{◌≡◌, ℕ, ◌+◌, ◌<◌, ◌≤◌, Bool, true, false, cond, eqb, ltb, List, length, get_or, drop, is_some, is_err, Some, None, Ok, Err, Option, Result, sym, refl, ap, ◌∙◌, ⊎_elim}
-use Rattle.std.proofs.lemmas.List.{drop_more, drop_all}
+use Rattle.std.proofs.Common.{◌≡◌, ℕ, ◌+◌, ◌<◌, Bool, true, false, cond, eqb, ltb, List, length, get_or, drop, is_some, is_err, Some, None, Ok, Err, Option, Result, sym, refl, ap, ◌∙◌, ⊎_elim}
+use Rattle.std.proofs.lemmas.List.{drop_more}
 use Rattle.std.proofs.lemmas.Bool.{cases_eq, eq-eqb, ne_eqb, cond-true, cond-false, true≢false}
 use Rattle.statement.specs.declared.checked.Statement.{Statement}
 use Rattle.statement.specs.Operations.{writes_cell, changed}
 use Rattle.replica.specs.declared.faults.Fault.{Fault}
 use Rattle.replica.specs.declared.faults.Fault.TheVariants.{NoSlot, SlotOpen, SlotClosed}
 use Rattle.replica.specs.Meanings.{Meaning, Slot, put, fresh, is_open, current}
-use Rattle.replica.specs.Calls.{opened, written_into, looked_at, ran, sealed, undone}
-use Rattle.replica.specs.Refusals.{open_refusal, run_refusal, seal_refusal, undo_refusal}
-use Rattle.replica.specs.Outcomes.{Seals}
+use Rattle.replica.specs.Calls.{opened, written_into, looked_at, ran, undone}
+use Rattle.replica.specs.Refusals.{open_refusal, run_refusal, undo_refusal}
 use Rattle.replica.specs.Transactions.{first_refusal, ran_all, finish_refusal, Finishes, Transacts}
 use Rattle.replica.proofs.Same.{same_meaning}
 
@@ -84,21 +83,6 @@ module _ (unit : ℕ → ℕ) (m : Meaning) (s : ℕ) where
       was_open : (x : Option Fault) (f : Fault) (b : Bool) → cond b x (Some f) ≡ None → b ≡ true
       was_open x f true e = refl
       was_open x f false e = cc
-
-  -- a run that is refused refuses the rest
-  pub one_refused : (xs : List Statement) (i p : ℕ) (st : Statement) (e : Fault) → i < length xs → st ≡ get_or xs i st → run_refusal unit m s st ≡ Some e → finish_refusal unit m s (drop i xs) p ≡ Some e
-  one_refused xs i p st e within read refused =
-      ap (λ l. finish_refusal unit m s l p) (drop_more xs i st within)
-      ∙ ap (λ o. first_refusal o (finish_refusal unit (ran unit m s (get_or xs i st)) s (drop (i + 1) xs) p)) (sym (ap (run_refusal unit m s) read) ∙ refused)
-
-  pub no_more : (xs : List Statement) (i p : ℕ) → length xs ≤ i → (ran_all unit m s (drop i xs) ≡ m) × (finish_refusal unit m s (drop i xs) p ≡ seal_refusal m s p)
-  no_more xs i p past = let e = drop_all i xs past in (ap (ran_all unit m s) e, ap (λ l. finish_refusal unit m s l p) e)
-
-  -- the seal that follows the runs
-  pub sealed_last : (d n : Meaning) (xs : List Statement) (p : ℕ) → d ≡ ran_all unit m s xs → seal_refusal d s p ≡ finish_refusal unit m s xs p → undone d s ≡ undone m s → is_open d s ≡ is_open m s
-      → (r : Result (Unit {0}) Fault) → Seals r s p d n → Finishes unit r s xs p m n
-  sealed_last d n xs p ran_so same undo_so open_so (Ok u) told = (sym same ∙ told.0, told.2 ∙ ap (λ k. sealed k s p) ran_so)
-  sealed_last d n xs p ran_so same undo_so open_so (Err e) told = (sym same ∙ told.0, ap (λ k. undone k s) told.1 ∙ undo_so, ap (λ k. is_open k s) told.1 ∙ open_so)
 
   -- the first refusal, where the open is not refused
   pub first_open : (o : Option Fault) → open_refusal m s ≡ None → first_refusal (open_refusal m s) o ≡ o
