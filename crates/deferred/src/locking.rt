@@ -15,10 +15,10 @@ impl Deferred {
         requires { other < 8 }
         ensures { result ≡ excludes (meaning_of self.now) slot (unit_of_eight statement.now.cell) (writes_cell statement.now.operation) other }
     {
-        let Some(transaction) = &self.slots[other] else {
-            return false;
-        };
-        other != slot && transaction.excludes(statement)
+        other != slot
+            && self.slots[other]
+                .as_ref()
+                .is_some_and(|transaction| transaction.excludes(statement))
     }
 
     /// Whether some other slot has a lock that excludes the one that `slot` needs for the statement.

@@ -32,6 +32,7 @@ impl Database for Deferred {
             return Err(Fault::Busy(cell));
         }
         let committed = self.cells[cell as usize];
+        // kept: after `as_mut()` and `?` a proof does not learn what the slot holds in the end
         let Some(transaction) = &mut self.slots[slot] else {
             return Err(Fault::SlotClosed);
         };
