@@ -18,10 +18,7 @@ fn sender_of(message: &Message) -> u8 {
 
 // The sender of the message at a position.
 fn sender_at(row: &OldestFirst, position: u64) -> Option<u8> {
-    match row.message_at(position) {
-        Ok(message) => Some(sender_of(message)),
-        Err(_) => None,
-    }
+    row.message_at(position).ok().map(sender_of)
 }
 
 #[test]
