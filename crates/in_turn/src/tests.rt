@@ -19,9 +19,7 @@ fn epoch_of(message: &Message) -> u64 {
 
 // Offers a message of each sender, with epochs from 1.
 fn offer_from(lines: &mut InTurn, senders: &[u8]) -> Result<(), Fail> {
-    let mut epoch = 0u64;
-    for sender in senders {
-        epoch = epoch.wrapping_add(1);
+    for (sender, epoch) in senders.iter().zip(1..) {
         lines.offer(from(*sender, epoch))?;
     }
     Ok(())
