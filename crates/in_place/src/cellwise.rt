@@ -1,5 +1,5 @@
 //! Former values of all cells.
-ghost use Rattle.std.specs.Prelude.{◌≡◌, ℕ, length, None, slice_index, slice_index_or};
+ghost use Rattle.std.specs.Prelude.{◌≡◌, ℕ, None, slice_index, slice_index_or};
 ghost use Rattle.in_place.specs.Parts.{committed, released, restored};
 
 use crate::former::{Former, base, release, restore};
