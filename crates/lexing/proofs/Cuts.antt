@@ -1,22 +1,16 @@
 -- What the parts of a text are.
-use Rattle.std.proofs.Common.{◌≡◌, ℕ, suc, ◌+◌, ◌-◌, ◌<◌, true, false, cond, eqb, List, [], ◌∷◌, ◌++◌, length, get_or, take, drop, sym, refl, ap, ◌∙◌, subst, le_refl, add-one, arith, take-append-drop, length-take-le, drop-cons, get_or-take, eq-eqb, true-eqb}
+use Rattle.std.proofs.Common.{◌≡◌, ℕ, suc, ◌+◌, ◌-◌, ◌<◌, true, false, cond, eqb, List, [], ◌∷◌, ◌++◌, length, get_or, take, drop, sym, refl, ap, ◌∙◌, le_refl, add-one, arith, take-append-drop, length-take-le, drop-cons, get_or-take, eq-eqb, true-eqb}
+use Rattle.std.proofs.lemmas.Bool.{ne_eqb}
 use Rattle.std.proofs.lemmas.Slice.{between_to_end}
-use native.Mathlib.Nat.{sub-zero}
 use Rattle.lexing.specs.Parts.{parts, onto, joined, Free, AllFree}
-
-other : (b s : ℕ) → (b ≡ s → ⊥) → eqb b s ≡ false
-other b s h = elim (eqb b s) as (λ v. eqb b s ≡ v → eqb b s ≡ false) [ true ↦ λ e. absurd (h (true-eqb b s (sym e))) | false ↦ λ e. e ] refl
-
-same : (s : ℕ) → eqb s s ≡ true
-same s = eq-eqb s s refl
 
 pub parts_free : (s : ℕ) (bs : List ℕ) → Free s bs → parts s bs ≡ bs ∷ []
 parts_free s [] f = refl
-parts_free s (b ∷ bs) f = rw (other b s f.0, parts_free s bs f.1)
+parts_free s (b ∷ bs) f = rw (ne_eqb b s f.0, parts_free s bs f.1)
 
 pub parts_cut : (s : ℕ) (w bs : List ℕ) → Free s w → parts s (w ++ (s ∷ bs)) ≡ w ∷ parts s bs
-parts_cut s [] bs f = rw (same s)
-parts_cut s (b ∷ w) bs f = rw (other b s f.0, parts_cut s w bs f.1)
+parts_cut s [] bs f = rw (eq-eqb s s refl)
+parts_cut s (b ∷ w) bs f = rw (ne_eqb b s f.0, parts_cut s w bs f.1)
 
 pub free_by_index : (s : ℕ) (bs : List ℕ) → ((k : ℕ) → k < length bs → get_or bs k 0 ≡ s → ⊥) → Free s bs
 free_by_index s [] h = tt
@@ -48,14 +42,15 @@ joined_parts s (b ∷ bs) =
     ] refl
 
 -- a text whose first s stands at i
-pub cut_at : (s : ℕ) (bs : List ℕ) (i : ℕ) → i < length bs → get_or bs i 0 ≡ s → ((k : ℕ) → k < i → get_or bs k 0 ≡ s → ⊥) → Free s (take (i - 0) bs) × (bs ≡ take (i - 0) bs ++ (s ∷ take (length bs - (i + 1)) (drop (i + 1) bs)))
+pub cut_at :
+    (s : ℕ) (bs : List ℕ) (i : ℕ) → i < length bs → get_or bs i 0 ≡ s → ((k : ℕ) → k < i → get_or bs k 0 ≡ s → ⊥) →
+    Free s (take i bs) × (bs ≡ take i bs ++ (s ∷ take (length bs - (i + 1)) (drop (i + 1) bs)))
 cut_at s bs i lt e none =
     let long = length-take-le i bs (omega arith) in
     let f : Free s (take i bs) = free_by_index s (take i bs) (λ k h g. none k (omega arith) (sym (get_or-take i bs k 0 (omega arith)) ∙ g)) in
     let p : drop i bs ≡ s ∷ drop (i + 1) bs = drop-cons bs i 0 lt ∙ ap (λ c. c ∷ drop (suc i) bs) e ∙ ap (λ n. s ∷ drop n bs) (sym (add-one i)) in
-    let z = sym (sub-zero i) in
     let all : bs ≡ take i bs ++ (s ∷ drop (i + 1) bs) = sym (take-append-drop i bs) ∙ ap (λ l. take i bs ++ l) p in
-    (subst (λ n. Free s (take n bs)) z f, all ∙ (λ j. take (z j) bs ++ (s ∷ sym (between_to_end bs (i + 1) (length bs) (le_refl (length bs))) j)))
+    (f, all ∙ ap (λ l. take i bs ++ (s ∷ l)) (sym (between_to_end bs (i + 1) (length bs) (le_refl (length bs)))))
 
 pub never_none : (s : ℕ) (bs : List ℕ) → parts s bs ≡ [] → ⊥
 never_none s bs e = let p = (some s bs).2 in let z : ◌≡◌ {A = ℕ} 0 1 = cc in omega arith

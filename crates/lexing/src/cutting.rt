@@ -7,12 +7,8 @@ pub fn cut(bytes: &[u8], stop: u8) -> Option<(&[u8], &[u8])>
     ensures text { MatchOption result (Free stop bytes.now) (λ p. Free stop p.0.now × (bytes.now ≡ p.0.now ++ (stop ∷ p.1.now))) }
     ensures parts { MatchOption result (parts stop bytes.now ≡ bytes.now ∷ []) (λ p. parts stop bytes.now ≡ p.0.now ∷ parts stop p.1.now) }
 {
-    for (i, b) in bytes.iter().enumerate() {
-        if *b == stop {
-            return Some((&bytes[0..i], &bytes[i + 1..]));
-        }
-    }
-    None
+    let i = bytes.iter().position(|b| *b == stop)?;
+    Some((&bytes[..i], &bytes[i + 1..]))
 }
 
 /// Whether two texts are the same.

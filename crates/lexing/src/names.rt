@@ -9,13 +9,5 @@ const LETTERS: usize = 8;
 pub fn is_name(word: &[u8]) -> bool
     ensures { Decides result (Name word.now) }
 {
-    if word.len() == 0 || word.len() > LETTERS {
-        return false;
-    }
-    for b in word {
-        if *b < b'a' || *b > b'z' {
-            return false;
-        }
-    }
-    true
+    (1..=LETTERS).contains(&word.len()) && word.iter().all(u8::is_ascii_lowercase)
 }

@@ -20,7 +20,7 @@ pub enum Token<'a> {
         text: &'a [u8],
         line: u32,
     },
-    /// There is no further word.
+    /// There is no further word. kept: (d) a variant and not `None`, since the end tells its line as a word does.
     End {
         line: u32,
     },
@@ -51,7 +51,7 @@ impl<'a> Lexer<'a> {
         ensures line { self.new.line ≡ self.old.line }
     {
         let line = self.line;
-        let Some(rest) = self.rest else {
+        let Some(rest) = self.rest.take() else {
             return Token::End { line };
         };
         let text = match cut(rest, b' ') {
@@ -59,10 +59,7 @@ impl<'a> Lexer<'a> {
                 self.rest = Some(after);
                 word
             }
-            None => {
-                self.rest = None;
-                rest
-            }
+            None => rest,
         };
         match number(text) {
             Some(value) => Token::Number { text, value, line },

@@ -15,13 +15,8 @@ impl<'a> Lexer<'a> {
         ensures line { self.new.line ≡ self.old.line }
     {
         match self.token() {
-            Token::Number {
-                text: _,
-                value,
-                line: _,
-            } => { if value <= most { Some(value) } else { None } }
-            Token::Word { text: _, line: _ } => None,
-            Token::End { line: _ } => None,
+            Token::Number { value, .. } if value <= most => Some(value),
+            _ => None,
         }
     }
 
@@ -30,10 +25,7 @@ impl<'a> Lexer<'a> {
         ensures takes { Takes (λ n. n ≤ 255) (λ n. decimal n ∷ []) result (left self.old) (left self.new) }
         ensures line { self.new.line ≡ self.old.line }
     {
-        match self.number(255) {
-            Some(n) => Some(n as u8),
-            None => None,
-        }
+        self.number(255).map(|n| n as u8)
     }
 
     /// The next word, where it is a name.
@@ -41,15 +33,7 @@ impl<'a> Lexer<'a> {
         ensures takes { Takes Name (λ t. t ∷ []) (option_map (λ x. x.now) result) (left self.old) (left self.new) }
         ensures line { self.new.line ≡ self.old.line }
     {
-        match self.token() {
-            Token::Word { text, line: _ } => { if is_name(text) { Some(text) } else { None } }
-            Token::Number {
-                text: _,
-                value: _,
-                line: _,
-            } => None,
-            Token::End { line: _ } => None,
-        }
+        self.word().filter(|text| is_name(text))
     }
 
     /// The next word, where it writes no number.
@@ -58,13 +42,8 @@ impl<'a> Lexer<'a> {
         ensures line { self.new.line ≡ self.old.line }
     {
         match self.token() {
-            Token::Word { text, line: _ } => Some(text),
-            Token::Number {
-                text: _,
-                value: _,
-                line: _,
-            } => None,
-            Token::End { line: _ } => None,
+            Token::Word { text, .. } => Some(text),
+            _ => None,
         }
     }
 
@@ -72,9 +51,6 @@ impl<'a> Lexer<'a> {
     pub fn is_done(&self) -> bool
         ensures { Decides result (left self.now ≡ []) }
     {
-        match self.rest {
-            Some(_) => false,
-            None => true,
-        }
+        self.rest.is_none()
     }
 }
