@@ -28,3 +28,7 @@ Unspelt (opening.Member v) ws = (t : Target) (cell member : ℕ) → Aimed t →
 -- Of the commands with this opening, r is the one that has these further words, or None.
 abbrev pub Spelt : Opening → Option Command → List (List ℕ) → Type 0
 Spelt o r ws = MatchOption r (Unspelt o ws) (λ c. (opens_with c ≡ o) × Proper c × (ws ≡ further_words c))
+
+-- Of the commands with this opening, r is the one whose further words stand in front of `was`, with `is` left; or None, where none has those words.
+abbrev pub SpeltInFront : Opening → Option Command → List (List ℕ) → List (List ℕ) → Type 0
+SpeltInFront o r was is = MatchOption r (Unspelt o was) (λ c. (opens_with c ≡ o) × Proper c × (was ≡ further_words c ++ is))

@@ -2,8 +2,6 @@
 ghost use Rattle.std.specs.Prelude.{◌≡◌, MatchOption, ◌≢◌};
 ghost use Rattle.commands.specs.Words.{opening_text};
 
-use lexing::same;
-
 /// What is done with a whole server.
 #[derive(Clone, Copy, Drop)]
 pub enum ServerVerb {
@@ -59,39 +57,23 @@ pub enum Opening {
 pub fn opening_of(word: &[u8]) -> Option<Opening>
     ensures { MatchOption result ((o : Opening) → word.now ≢ opening_text o) (λ o. word.now ≡ opening_text o) }
 {
-    if same(word, b"order") {
-        Some(Opening::Order)
-    } else if same(word, b"cell") {
-        Some(Opening::Cell)
-    } else if same(word, b"suspect") {
-        Some(Opening::Server(ServerVerb::Suspect))
-    } else if same(word, b"deliver") {
-        Some(Opening::Server(ServerVerb::Deliver))
-    } else if same(word, b"stop") {
-        Some(Opening::Server(ServerVerb::Stop))
-    } else if same(word, b"start") {
-        Some(Opening::Server(ServerVerb::Start))
-    } else if same(word, b"begin") {
-        Some(Opening::Job(JobVerb::Begin))
-    } else if same(word, b"commit") {
-        Some(Opening::Job(JobVerb::Commit))
-    } else if same(word, b"abort") {
-        Some(Opening::Job(JobVerb::Abort))
-    } else if same(word, b"get") {
-        Some(Opening::Read(ReadVerb::Get))
-    } else if same(word, b"heads") {
-        Some(Opening::Read(ReadVerb::Heads))
-    } else if same(word, b"set") {
-        Some(Opening::Store(StoreVerb::Set))
-    } else if same(word, b"add") {
-        Some(Opening::Store(StoreVerb::Add))
-    } else if same(word, b"take") {
-        Some(Opening::Store(StoreVerb::Take))
-    } else if same(word, b"join") {
-        Some(Opening::Member(MemberVerb::Join))
-    } else if same(word, b"leave") {
-        Some(Opening::Member(MemberVerb::Leave))
-    } else {
-        None
+    match str::from_utf8(word).ok()? {
+        "order" => Some(Opening::Order),
+        "cell" => Some(Opening::Cell),
+        "suspect" => Some(Opening::Server(ServerVerb::Suspect)),
+        "deliver" => Some(Opening::Server(ServerVerb::Deliver)),
+        "stop" => Some(Opening::Server(ServerVerb::Stop)),
+        "start" => Some(Opening::Server(ServerVerb::Start)),
+        "begin" => Some(Opening::Job(JobVerb::Begin)),
+        "commit" => Some(Opening::Job(JobVerb::Commit)),
+        "abort" => Some(Opening::Job(JobVerb::Abort)),
+        "get" => Some(Opening::Read(ReadVerb::Get)),
+        "heads" => Some(Opening::Read(ReadVerb::Heads)),
+        "set" => Some(Opening::Store(StoreVerb::Set)),
+        "add" => Some(Opening::Store(StoreVerb::Add)),
+        "take" => Some(Opening::Store(StoreVerb::Take)),
+        "join" => Some(Opening::Member(MemberVerb::Join)),
+        "leave" => Some(Opening::Member(MemberVerb::Leave)),
+        _ => None,
     }
 }

@@ -1,11 +1,10 @@
 //! Reading a step line.
-ghost use Rattle.std.specs.Prelude.{◌≤◌, [], ◌∷◌, ◌++◌, decimal};
 ghost use Rattle.lexing.specs.Tokens.{left};
 ghost use Rattle.lexing.specs.Takes.{Takes};
-ghost use Rattle.commands.specs.Words.{Aimed, target_words, place_words};
-ghost use Rattle.commands.specs.Lines.{Reads, Spelt};
+ghost use Rattle.commands.specs.Words.{Aimed, target_words};
+ghost use Rattle.commands.specs.Lines.{Reads, SpeltInFront};
 
-use crate::openings::{JobVerb, MemberVerb, Opening, ReadVerb, ServerVerb, StoreVerb, opening_of};
+use crate::openings::{Opening, opening_of};
 use crate::shapes::{Command, Target};
 use lexing::Lexer;
 
@@ -19,151 +18,35 @@ const LAST_VALUE: u64 = 999_999_999_999_999_999;
 fn target<'a>(words: &mut Lexer<'a>) -> Option<Target<'a>>
     ensures { Takes Aimed target_words result (left words.old) (left words.new) }
 {
-    let Some(server) = words.byte() else {
-        return None;
-    };
-    let Some(name) = words.name() else {
-        return None;
-    };
-    let Some(job) = words.number(LAST_JOB) else {
-        return None;
-    };
     Some(Target {
-        server,
-        name,
-        job: job as u32,
+        server: words.byte()?,
+        name: words.name()?,
+        job: words.number(LAST_JOB)? as u32,
     })
 }
 
-/// Server, name, job and cell.
-fn place<'a>(words: &mut Lexer<'a>) -> Option<(Target<'a>, u8)>
-    ensures { Takes (λ x. Aimed x.0 × (x.1 ≤ 255)) (λ x. place_words x.0 x.1) result (left words.old) (left words.new) }
-{
-    let Some(target) = target(words) else {
-        return None;
-    };
-    let Some(cell) = words.byte() else {
-        return None;
-    };
-    Some((target, cell))
-}
-
-/// What follows `cell`.
-fn cell_question<'a>(words: &mut Lexer<'a>) -> Option<Command<'a>>
-    ensures { Spelt Opening.Cell result (left words.old) }
-{
-    let Some(server) = words.byte() else {
-        return None;
-    };
-    let Some(cell) = words.byte() else {
-        return None;
-    };
-    if words.is_done() {
-        Some(Command::Cell(server, cell))
-    } else {
-        None
-    }
-}
-
-/// What follows a verb on a server.
-fn server_command<'a>(words: &mut Lexer<'a>, verb: ServerVerb) -> Option<Command<'a>>
-    ensures { Spelt (Opening.Server verb) result (left words.old) }
-{
-    let Some(server) = words.byte() else {
-        return None;
-    };
-    if words.is_done() {
-        Some(Command::Server(verb, server))
-    } else {
-        None
-    }
-}
-
-/// What follows a verb on a job.
-fn job_command<'a>(words: &mut Lexer<'a>, verb: JobVerb) -> Option<Command<'a>>
-    ensures { Spelt (Opening.Job verb) result (left words.old) }
-{
-    let Some(target) = target(words) else {
-        return None;
-    };
-    if words.is_done() {
-        Some(Command::Job(verb, target))
-    } else {
-        None
-    }
-}
-
-/// What follows a statement that reads.
-fn read_command<'a>(words: &mut Lexer<'a>, verb: ReadVerb) -> Option<Command<'a>>
-    ensures { Spelt (Opening.Read verb) result (left words.old) }
-{
-    let Some((target, cell)) = place(words) else {
-        return None;
-    };
-    if words.is_done() {
-        Some(Command::Read(verb, target, cell))
-    } else {
-        None
-    }
-}
-
-/// What follows a statement with a value.
-fn store_command<'a>(words: &mut Lexer<'a>, verb: StoreVerb) -> Option<Command<'a>>
-    ensures { Spelt (Opening.Store verb) result (left words.old) }
-{
-    let Some((target, cell)) = place(words) else {
-        return None;
-    };
-    let Some(value) = words.number(LAST_VALUE) else {
-        return None;
-    };
-    if words.is_done() {
-        Some(Command::Store(verb, target, cell, value))
-    } else {
-        None
-    }
-}
-
-/// What follows a statement with a member.
-fn member_command<'a>(words: &mut Lexer<'a>, verb: MemberVerb) -> Option<Command<'a>>
-    ensures { Spelt (Opening.Member verb) result (left words.old) }
-{
-    let Some((target, cell)) = place(words) else {
-        return None;
-    };
-    let Some(member) = words.byte() else {
-        return None;
-    };
-    if words.is_done() {
-        Some(Command::Member(verb, target, cell, member))
-    } else {
-        None
-    }
-}
-
-/// What follows `order`: nothing.
-fn order_command<'a>(words: &mut Lexer<'a>) -> Option<Command<'a>>
-    ensures { Spelt Opening.Order result (left words.old) }
-{
-    if words.is_done() {
-        Some(Command::Order)
-    } else {
-        None
-    }
-}
-
-/// The command with this opening whose further words are left.
-fn rest_of<'a>(words: &mut Lexer<'a>, opening: Opening) -> Option<Command<'a>>
-    ensures { Spelt opening result (left words.old) }
+/// The command with this opening whose further words come next.
+fn further<'a>(words: &mut Lexer<'a>, opening: Opening) -> Option<Command<'a>>
+    ensures { SpeltInFront opening result (left words.old) (left words.new) }
 {
     match opening {
-        Opening::Order => order_command(words),
-        Opening::Cell => cell_question(words),
-        Opening::Server(verb) => server_command(words, verb),
-        Opening::Job(verb) => job_command(words, verb),
-        Opening::Read(verb) => read_command(words, verb),
-        Opening::Store(verb) => store_command(words, verb),
-        Opening::Member(verb) => member_command(words, verb),
+        Opening::Order => Some(Command::Order),
+        Opening::Cell => Some(Command::Cell(words.byte()?, words.byte()?)),
+        Opening::Server(verb) => Some(Command::Server(verb, words.byte()?)),
+        Opening::Job(verb) => Some(Command::Job(verb, target(words)?)),
+        Opening::Read(verb) => Some(Command::Read(verb, target(words)?, words.byte()?)),
+        Opening::Store(verb) => Some(Command::Store(
+            verb,
+            target(words)?,
+            words.byte()?,
+            words.number(LAST_VALUE)?,
+        )),
+        Opening::Member(verb) => Some(Command::Member(
+            verb,
+            target(words)?,
+            words.byte()?,
+            words.byte()?,
+        )),
     }
 }
 
@@ -171,12 +54,9 @@ fn rest_of<'a>(words: &mut Lexer<'a>, opening: Opening) -> Option<Command<'a>>
 pub fn parse(line: &[u8], number: u32) -> Option<Command<'_>>
     ensures { Reads result line.now }
 {
+    // kept: (d) the line's number, since the lexer gives each word its line; a number made up here would be wrong.
     let mut words = Lexer::new(line, number);
-    let Some(word) = words.word() else {
-        return None;
-    };
-    let Some(opening) = opening_of(word) else {
-        return None;
-    };
-    rest_of(&mut words, opening)
+    let opening = opening_of(words.word()?)?;
+    let command = further(&mut words, opening)?;
+    words.is_done().then_some(command)
 }

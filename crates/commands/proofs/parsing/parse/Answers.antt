@@ -1,16 +1,28 @@
-use Rattle.std.proofs.Common.{sym, ◌∙◌}
+use Rattle.std.proofs.Common.{Option, sym, ◌∙◌, subst}
+use Rattle.lexing.specs.Tokens.{left}
+use Rattle.commands.specs.declared.shapes.Command.{Command}
 use Rattle.commands.specs.Words.{opening_text}
-use Rattle.lexing.proofs.Heads.{head_same}
+use Rattle.commands.specs.Lines.{Reads, Spelt}
 use Rattle.commands.proofs.FirstWords.{opening_word}
+use Rattle.commands.proofs.Fronts.{whole}
 use Rattle.commands.proofs.RoundTrip.{reads_back, no_opening}
 use Rattle.commands.proofs.parsing.parse.Goals as goal
 
-pub returns-in_default : goal.returns-in_default
-returns-in_default c = no_opening _ (λ o ws e. c.in_default.ensures.takes (opening_text o) ws (opening_word o) (c.new-words.ensures.words ∙ e))
+pub returns-in_err-word : goal.returns-in_err-word
+returns-in_err-word c =
+    let none = no_opening _ (λ o ws e. c.in_err-word.ensures.takes (opening_text o) ws (opening_word o) (c.new-words.ensures.words ∙ e)) in
+    subst (λ (r : Option Command). Reads r c.args.line.now) (sym c.from_residual.ensures) none
 
-pub returns-in_default-opening_of : goal.returns-in_default-opening_of
-returns-in_default-opening_of c = no_opening _ (λ o ws e. c.in_default-opening_of.ensures o (head_same c.in-Some.ensures.takes.1 (c.new-words.ensures.words ∙ e)))
+pub returns-in_err-command : goal.returns-in_err-command
+returns-in_err-command c =
+    let front = sym c.new-words.ensures.words ∙ c.in_ok-word.ensures.takes.1 in
+    reads_back c.in_ok-opening.opening c.from_residual-in_err-command.result c.args.line.now front c.in_ok-opening.ensures
+    (subst (λ (r : Option Command). Spelt c.in_ok-opening.opening r (left c.word.new.self)) (sym c.from_residual-in_err-command.ensures)
+    c.in_err-command.ensures)
 
 pub returns : goal.returns
 returns c =
-    reads_back c.in-Some-opening_of.opening c.rest_of.result c.args.line.now (sym c.new-words.ensures.words ∙ c.in-Some.ensures.takes.1) c.in-Some-opening_of.ensures c.rest_of.ensures
+    let front = sym c.new-words.ensures.words ∙ c.in_ok-word.ensures.takes.1 in
+    reads_back c.in_ok-opening.opening c.then_some.result c.args.line.now front c.in_ok-opening.ensures
+    (subst (λ (r : Option Command). Spelt c.in_ok-opening.opening r (left c.word.new.self)) (sym c.then_some.ensures)
+    (whole c.in_ok-opening.opening c.in_ok-command.command c.is_done.result c.in_ok-command.ensures c.is_done.ensures))

@@ -1,8 +1,9 @@
-use Rattle.std.proofs.Common.{◌≡◌, ℕ, ◌<◌, ◌⊎◌, Bool, true, false, eqb, List, length, get_or, Some, None, Ok, Err, Result, MatchOption, MatchResult, Option, ◌≢◌, sym, ap, ◌∙◌, subst, inl, inr, ⊎_elim, arith, Bor, true-eqb, eq-eqb}
+use Rattle.std.proofs.Common.{◌≡◌, ℕ, ◌<◌, ◌⊎◌, Bool, true, false, eqb, List, length, get_or, Ok, Err, Result, MatchOption, MatchResult, Option, ◌≢◌, sym, ◌∙◌, subst, inl, inr, ⊎_elim, arith, true-eqb, eq-eqb}
 use Rattle.std.specs.Result.{result_ok}
 use Rattle.std.specs.Str.Parse.{ParsesUnsigned}
 use Rattle.lexing.specs.Forms as forms
 use Rattle.lexing.proofs.Digits.{shape, no_plus, parsed, number_utf8}
+use Rattle.lexing.proofs.Utf8.{no_text, the_text}
 use Rattle.std.proofs.lemmas.Bool.{false≢true}
 use Rattle.lexing.proofs.numbers.number.Goals as goal
 use Rattle.lexing.proofs.numbers.number.Goals.{then-word-eq48, else-word-eq48, else-word-gt1-via-then-word-gt1+else-word-eq43, else-word-gt1-via-else-word-gt1}
@@ -25,19 +26,7 @@ returns-then-word-eq43 c n w =
 abbrev Tells : List ℕ → Option ℕ → Type 0
 Tells bs r = MatchOption r (forms.Word bs) (λ n. forms.Writes n bs)
 
--- what `from_utf8` and `parse` gave
-no_text :
-    {E : Type 0} (r : Result (Bor (List ℕ)) E) (P : Bor (List ℕ) → Type 0) (Q : Type 0) (R : E → Type 0) →
-    None ≡ result_ok r → MatchResult r P (λ e. Q × R e) → Q
-no_text (Ok t) P Q R e h = absurd cc
-no_text (Err x) P Q R e h = h.0
-
-the_text :
-    {E : Type 0} (r : Result (Bor (List ℕ)) E) (t : Bor (List ℕ)) (bs : List ℕ) (Q : Type 0) (R : E → Type 0) →
-    Some t ≡ result_ok r → MatchResult r (λ s. (s.now ≡ bs) × Q) R → t.now ≡ bs
-the_text (Ok s) t bs Q R e h = let same : t ≡ s = cc in ap (λ (x : Bor (List ℕ)). x.now) same ∙ h.0
-the_text (Err x) t bs Q R e h = absurd cc
-
+-- what `parse` gave
 the_number : {E : Type 0} (r : Result ℕ E) (P : ℕ → Type 0) (Q : Type 0) → MatchResult r P (λ _. Q) → MatchOption (result_ok r) Q P
 the_number (Ok n) P Q h = h
 the_number (Err x) P Q h = h
