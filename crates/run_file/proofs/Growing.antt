@@ -1,11 +1,12 @@
 -- How the names and lines that were read grow by one, and what stops them.
-use Rattle.std.proofs.Common.{◌≡◌, ℕ, ◌+◌, ◌<◌, ◌≤◌, List, [], ◌∷◌, ◌++◌, map, length, Some, None, Option, sym, refl, ap, ◌∙◌, subst, ⊎_elim, arith, length-append}
+use Rattle.std.proofs.Common.{◌≡◌, ℕ, ◌+◌, ◌<◌, ◌≤◌, List, [], ◌∷◌, ◌++◌, map, length, Some, None, Option, sym, refl, ap, ◌∙◌, subst, ⊎_elim, arith, length-append, Bor}
 use lib.ListN.{get_or-append}
 use lib.Seq.{get_or-append_seam}
 use Rattle.std.proofs.str.Laws.{order}
+use Rattle.std.proofs.lemmas.List.{length-map}
 use Rattle.lexing.specs.Forms as forms
 use Rattle.lexing.specs.Parts.{Free}
-use Rattle.run_file.specs.Texts.{text_at}
+use Rattle.run_file.specs.Texts.{text_of, texts, text_at}
 use Rattle.lexing.specs.Parts.{parts}
 use Rattle.commands.specs.declared.shapes.Command.{Command}
 use Rattle.commands.specs.declared.shapes.Command.TheVariants.{Order, Cell, Server, Job, Read, Store, Member}
@@ -13,11 +14,12 @@ use Rattle.commands.specs.Words.{words_of, Proper}
 use Rattle.commands.specs.Lines.{written}
 use Rattle.commands.proofs.RoundTrip.{line_free, command_parts}
 use Rattle.run_file.specs.declared.steps.Line.{Line}
+use Rattle.run_file.specs.declared.faults.Why.TheVariants as why
 use Rattle.run_file.specs.declared.faults.FileFault.{FileFault}
 use Rattle.run_file.specs.Steps.{name_in, Numbered, Unlisted}
 use Rattle.run_file.specs.Form.{ended, Apart, AllNames, StepLine, StepLines, in_steps}
 use Rattle.run_file.specs.Outcomes.{own, Says, AllSay, CommandNext, Wrong}
-use Rattle.run_file.specs.Sections.{NoLine, StepsStop}
+use Rattle.run_file.specs.Sections.{NoLine, NamesStop, StepsStop}
 use Rattle.run_file.proofs.Ended.{Lines, ended_append, line_same}
 
 pub map_more : {X Y : Type 0} (f : X → Y) (xs : List X) (x : X) → map f (xs ++ x ∷ []) ≡ map f xs ++ f x ∷ []
@@ -116,3 +118,44 @@ pub stopped :
     Wrong (in_steps ns count (map own ls)) rest f.why → f.line ≡ first + length (map own ls) → StepsStop ns text count first f
 stopped ns text count first ls rest f a e within stuck wrong at =
     record { done = map own ls; rest = rest; steps = say_lines ns ls a; split = e; within = within; stuck = stuck; wrong = wrong; line = at }
+
+-- at a line that is no command,
+pub no_command_stops :
+    (ns : Lines) (text : List ℕ) (count first number : ℕ) (ls : List Line) (rest : List ℕ) → AllSay ns ls → text ≡ ended (map own ls) rest →
+    first + length ls ≡ number → number < first + count → (CommandNext rest → ⊥) →
+    StepsStop ns text count first (record { why = why.Step; line = number })
+no_command_stops ns text count first number ls rest a e at less none =
+    let long = length-map ls own in
+    let f : FileFault = record { why = why.Step; line = number } in
+    stopped ns text count first ls rest f a e (omega (arith, long)) (λ _. no_step ns rest none) (omega (arith, long), none) (omega (arith, long))
+
+-- at a name that is not listed,
+pub unlisted_stops :
+    (ns : Lines) (text : List ℕ) (count first number : ℕ) (ls : List Line) (line after : List ℕ) {rest : List ℕ} (c : Command) →
+    AllSay ns ls → text ≡ ended (map own ls) rest → first + length ls ≡ number → number < first + count → Free 10 line →
+    rest ≡ line ++ (10 ∷ after) → Proper c → line ≡ written c → Unlisted ns (name_in c) →
+    StepsStop ns text count first (record { why = why.Unlisted; line = number })
+unlisted_stops ns text count first number ls line after {rest} c a e at less free p good is none =
+    let long = length-map ls own in
+    let f : FileFault = record { why = why.Unlisted; line = number } in
+    let next : CommandNext rest = record { command = c; after = after; proper = good; is = p ∙ ap (λ (l : List ℕ). l ++ (10 ∷ after)) is } in
+    stopped ns text count first ls rest f a e (omega (arith, long)) (λ _. unlisted_line ns line after c free p good is none)
+    (omega (arith, long), next) (omega (arith, long))
+
+-- or with bytes left
+pub leftover_stops :
+    (ns : Lines) (text : List ℕ) (count first number : ℕ) (ls : List Line) (rest : List ℕ) → AllSay ns ls → text ≡ ended (map own ls) rest →
+    length ls ≡ count → first + count ≡ number → (rest ≡ [] → ⊥) → StepsStop ns text count first (record { why = why.Leftover; line = number })
+leftover_stops ns text count first number ls rest a e all at some =
+    let long = length-map ls own in
+    let f : FileFault = record { why = why.Leftover; line = number } in
+    stopped ns text count first ls rest f a e (omega (arith, long)) (λ less. absurd (omega (arith, long, less))) (omega (arith, long), some) (omega (arith, long))
+
+-- the names stop after these
+pub names_stop :
+    (text : List ℕ) (count line : ℕ) (rs : List (Bor (List ℕ))) (rest : List ℕ) → AllNames (texts rs) → text ≡ ended (texts rs) rest →
+    length rs + 2 ≡ line → line < count + 2 → NoLine (λ l. forms.Name l × Apart (texts rs) l) rest →
+    NamesStop text count (record { why = why.Name; line = line })
+names_stop text count line rs rest a e at less stuck =
+    let long = length-map rs text_of in
+    record { done = texts rs; rest = rest; names = a; split = e; few = omega (arith, long); stuck = stuck; why = refl; line = omega (arith, long) }

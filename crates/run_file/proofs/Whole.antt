@@ -27,11 +27,6 @@ at_line text why.Step at fits f = (fits, f)
 at_line text why.Unlisted at fits f = (fits, f)
 at_line text why.Leftover at fits f = (fits, f)
 
--- the fault that a call returned
-pub returned : (text : List ℕ) (r : Result (Unit {0}) FileFault) (y f : FileFault) (ns : Lines) (ls : List Line) → r ≡ Err y → y ≡ f → Faulty text f.why f.line → FileRead text r ns ls
-returned text r y f ns ls e g h =
-    subst (λ (q : Result (Unit {0}) FileFault). FileRead text q ns ls) (sym (e ∙ ap Err g)) h
-
 pub names_head_fault : (text : List ℕ) (f : FileFault) → length text ≤ 32768 → NoLine (HeadLine Names) text × (f.why ≡ why.Head) × (f.line ≡ 1) → Faulty text f.why f.line
 names_head_fault text f fits h =
     at_line text f.why f.line fits

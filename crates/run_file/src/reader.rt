@@ -3,10 +3,12 @@ ghost use Rattle.std.specs.Prelude.{◌≡◌, ◌+◌, ◌≤◌, [], length, v
 ghost use Rattle.run_file.specs.Texts.{texts};
 ghost use Rattle.lexing.specs.Forms.{Name};
 ghost use Rattle.run_file.specs.Form.{Apart};
+ghost use Rattle.run_file.specs.Outcomes.{Roomy};
 ghost use Rattle.run_file.specs.Sections.{NamesRead, StepsRead, HeadRead, FileRead};
 
 use crate::faults::{FileFault, Why};
-use crate::meaning::{place_of, step_of};
+use crate::files::making::{NAMES, STEPS};
+use crate::meaning::{Clients, place_of};
 use crate::sections::Section;
 use crate::steps::Line;
 use commands::parse;
@@ -19,13 +21,7 @@ pub const BYTES: usize = 32768;
 fn is_fresh(names: &[&[u8]], name: &[u8]) -> bool
     ensures { Decides result (Name name.now × Apart (texts names.now) name.now) }
 {
-    if !is_name(name) {
-        return false;
-    }
-    match place_of(names, name) {
-        Some(_) => false,
-        None => true,
-    }
+    is_name(name) && place_of(names, name).is_none()
 }
 
 /// Reads so many names, and answers what comes after them.
@@ -34,19 +30,19 @@ pub(crate) fn read_names<'a>(
     count: u32,
     names: &mut Vec<&'a [u8]>,
 ) -> Result<&'a [u8], FileFault>
-    requires { (names.old.items ≡ []) × ((count ≤ 16) × (16 ≤ vec_capacity names.old)) }
+    requires few { count ≤ NAMES }
+    requires empty { names.old.items ≡ [] }
+    requires room { NAMES ≤ vec_capacity names.old }
     ensures read { NamesRead text.now count result (texts names.new.items) }
     ensures room { vec_capacity names.new ≡ vec_capacity names.old }
 {
     let mut rest = text;
-    for i in 0..count {
+    for line in 2..count + 2 {
         let fault = FileFault {
             why: Why::Name,
-            line: 2 + i,
+            line,
         };
-        let Some((name, after)) = cut(rest, b'\n') else {
-            return Err(fault);
-        };
+        let (name, after) = cut(rest, b'\n').ok_or(fault)?;
         if !is_fresh(names.as_slice(), name) {
             return Err(fault);
         }
@@ -61,36 +57,33 @@ pub(crate) fn read_steps<'a>(
     text: &'a [u8],
     count: u32,
     first: u32,
-    names: &[&'a [u8]],
+    clients: Clients<'_>,
     lines: &mut Vec<Line<'a>>,
 ) -> Result<(), FileFault>
-    requires { (lines.old.items ≡ []) × ((count ≤ 999) × ((999 ≤ vec_capacity lines.old) × ((first ≤ 100) × (length names.now ≤ 16)))) }
-    ensures read { StepsRead (texts names.now) text.now count first result lines.new.items }
+    requires few { count ≤ STEPS }
+    requires first { first ≤ 100 }
+    requires empty { lines.old.items ≡ [] }
+    requires room { STEPS ≤ vec_capacity lines.old }
+    ensures read { StepsRead (texts clients.entry.names.now) text.now count first result lines.new.items }
     ensures room { vec_capacity lines.new ≡ vec_capacity lines.old }
 {
     let mut rest = text;
-    for i in 0..count {
-        let number = first + i;
+    for number in first..first + count {
         let wrong = FileFault {
             why: Why::Step,
             line: number,
         };
-        let Some((line, after)) = cut(rest, b'\n') else {
-            return Err(wrong);
+        let unlisted = FileFault {
+            why: Why::Unlisted,
+            line: number,
         };
-        let Some(command) = parse(line, number) else {
-            return Err(wrong);
-        };
-        let Some(step) = step_of(names, command) else {
-            return Err(FileFault {
-                why: Why::Unlisted,
-                line: number,
-            });
-        };
+        let (line, after) = cut(rest, b'\n').ok_or(wrong)?;
+        let command = parse(line, number).ok_or(wrong)?;
+        let step = clients.step(command).ok_or(unlisted)?;
         lines.push_reserved(Line { text: line, step });
         rest = after;
     }
-    if rest.len() > 0 {
+    if !rest.is_empty() {
         return Err(FileFault {
             why: Why::Leftover,
             line: first + count,
@@ -107,12 +100,8 @@ fn read_head(text: &[u8], section: Section, number: u32) -> Result<(u32, &[u8]),
         why: Why::Head,
         line: number,
     };
-    let Some((line, rest)) = cut(text, b'\n') else {
-        return Err(fault);
-    };
-    let Some(count) = section.count(line, number) else {
-        return Err(fault);
-    };
+    let (line, rest) = cut(text, b'\n').ok_or(fault)?;
+    let count = section.count(line, number).ok_or(fault)?;
     Ok((count as u32, rest))
 }
 
@@ -122,7 +111,9 @@ pub(crate) fn read_file<'a>(
     names: &mut Vec<&'a [u8]>,
     lines: &mut Vec<Line<'a>>,
 ) -> Result<(), FileFault>
-    requires { (names.old.items ≡ []) × ((lines.old.items ≡ []) × ((16 ≤ vec_capacity names.old) × (999 ≤ vec_capacity lines.old))) }
+    requires no_names { names.old.items ≡ [] }
+    requires no_lines { lines.old.items ≡ [] }
+    requires room { Roomy (vec_capacity names.old) (vec_capacity lines.old) }
     ensures read { FileRead text.now result (texts names.new.items) lines.new.items }
     ensures room { (vec_capacity names.new ≡ vec_capacity names.old) × (vec_capacity lines.new ≡ vec_capacity lines.old) }
 {
@@ -136,5 +127,8 @@ pub(crate) fn read_file<'a>(
     let rest = read_names(rest, count, names)?;
     let number = count + 2;
     let (steps, rest) = read_head(rest, Section::Steps, number)?;
-    read_steps(rest, steps, number + 1, names.as_slice(), lines)
+    let clients = Clients {
+        names: names.as_slice(),
+    };
+    read_steps(rest, steps, number + 1, clients, lines)
 }

@@ -2,7 +2,8 @@
 ghost use Rattle.std.specs.Prelude.{◌≡◌, ℕ, Decides, MatchOption, ◌≢◌};
 ghost use Rattle.run_file.specs.Form.{section_text, least, most, head, Counts};
 
-use lexing::{Lexer, same};
+use crate::files::making::{NAMES, STEPS};
+use lexing::Lexer;
 
 /// A section: `names K` and K names, or `steps N` and N steps.
 #[derive(Clone, Copy)]
@@ -27,8 +28,18 @@ impl Section {
         ensures { result ≡ most self.now }
     {
         match *self {
-            Section::Names => 16,
-            Section::Steps => 999,
+            Section::Names => NAMES as u64,
+            Section::Steps => STEPS as u64,
+        }
+    }
+
+    /// The word that opens the section.
+    fn text(&self) -> &'static [u8]
+        ensures { result.now ≡ section_text self.now }
+    {
+        match *self {
+            Section::Names => b"names",
+            Section::Steps => b"steps",
         }
     }
 
@@ -36,10 +47,7 @@ impl Section {
     pub fn opens_with(&self, word: &[u8]) -> bool
         ensures { Decides result (word.now ≡ section_text self.now) }
     {
-        match *self {
-            Section::Names => same(word, b"names"),
-            Section::Steps => same(word, b"steps"),
-        }
+        word == self.text()
     }
 
     /// The count in the section's head, which has this line number in the file; `None` where the line is not such a head.
@@ -47,18 +55,13 @@ impl Section {
         ensures { MatchOption result ((n : ℕ) → Counts self.now n → line.now ≢ head self.now n) (λ n. Counts self.now n × (line.now ≡ head self.now n)) }
     {
         let mut words = Lexer::new(line, number);
-        let Some(word) = words.word() else {
-            return None;
-        };
-        if !self.opens_with(word) {
+        if !self.opens_with(words.word()?) {
             return None;
         }
-        let Some(count) = words.number(self.most()) else {
-            return None;
-        };
+        let count = words.number(self.most())?;
         if count < self.least() {
             return None;
         }
-        if words.is_done() { Some(count) } else { None }
+        words.is_done().then_some(count)
     }
 }

@@ -19,11 +19,7 @@ impl<'a> RunFile<'a> {
         ensures value { result ≡ line_at (lines_of self.now) place }
         ensures short { MatchOption result (length (lines_of self.now) ≤ place) (λ l. length l.text.now ≤ longest l.step) }
     {
-        if place < self.lines.len() {
-            Some(self.lines[place])
-        } else {
-            None
-        }
+        self.lines.get(place).copied()
     }
 
     /// The name of a client; no letters where it is not listed.
@@ -31,11 +27,6 @@ impl<'a> RunFile<'a> {
         ensures value { result.now ≡ text_at (names_of self.now) client }
         ensures short { length result.now ≤ 8 }
     {
-        let place = usize::from(client);
-        if place < self.names.len() {
-            self.names[place]
-        } else {
-            b""
-        }
+        self.names.get(usize::from(client)).copied().unwrap_or(b"")
     }
 }

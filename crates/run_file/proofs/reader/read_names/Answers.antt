@@ -1,80 +1,49 @@
-use Rattle.std.proofs.Common.{◌≡◌, ℕ, List, [], ◌∷◌, ◌++◌, length, vec_items, sym, refl, ap, ◌∙◌, subst, arith, length-append, Bor}
-use Rattle.std.proofs.lemmas.List.{length-map}
+use Rattle.std.proofs.Common.{◌≡◌, ℕ, List, [], ◌∷◌, ◌++◌, length, vec_items, sym, ap, ◌∙◌, subst, arith, length-append, Bor}
+use Rattle.std.proofs.lemmas.Bool.{false≢true}
+use Rattle.std.proofs.lemmas.Option.{MatchOption-at_none, MatchOption-at_some}
+use Rattle.std.proofs.lemmas.Result.{err_from_is_err_and}
 use Rattle.lexing.specs.Forms as forms
 use Rattle.lexing.proofs.Digits.{name_free}
 use Rattle.run_file.specs.Texts.{text_of, texts}
 use Rattle.run_file.specs.Form.{ended, Apart, AllNames}
-use Rattle.run_file.proofs.Growing.{map_more, ended_more, no_names, names_more, no_line, bad_line}
+use Rattle.run_file.proofs.Exits.{was_none, was_some}
+use Rattle.run_file.proofs.Growing.{map_more, ended_more, names_more, no_line, bad_line, names_stop}
 use Rattle.run_file.proofs.reader.read_names.Goals as goal
 
-pub loop-i-init : goal.loop-i-init
-loop-i-init c =
-    let none : texts (vec_items c.args.names.now) ≡ [] = ap texts c.requires.0 in
-    (ap length c.requires.0, subst AllNames (sym none) no_names, ap (λ (ls : List (List ℕ)). ended ls c.args.text.now) (sym none), refl)
+pub returns-in_err-name-clause-read : goal.returns-in_err-name-clause-read
+returns-in_err-name-clause-read c =
+    let inv = c.loop-line.invariant in
+    let p = err_from_is_err_and c.from_residual.result c.from_residual.ensures.1 in
+    let w = was_none c.cut.result _ _ c.in_err-name.ensures.value in
+    let free = MatchOption-at_none _ _ w.0 c.cut.ensures.text in
+    rw (p.1, p.2, w.1) (names_stop _ _ _ (vec_items c.loop-line.names) _ inv.good inv.split inv.place (omega arith) (no_line _ _ free))
 
-pub returns-in_default : goal.returns-in_default
-returns-in_default c =
-    let inv = c.loop-i.invariant in
-    let ns = vec_items c.loop-i.names in
-    record {
-      read = record {
-        done = texts ns;
-        rest = c.loop-i.rest.now;
-        names = inv.1;
-        split = inv.2;
-        few = omega (arith, length-map ns text_of, inv.0);
-        stuck = no_line _ _ c.in_default.ensures.text;
-        why = refl;
-        line = omega (arith, length-map ns text_of, inv.0);
-      };
-      room = inv.3;
-    }
+-- what is fresh among the slice is fresh among the names
+abbrev Fresh : List ℕ → List (Bor (List ℕ)) → Type 0
+Fresh l rs = forms.Name l × Apart (texts rs) l
 
--- what is not fresh among the slice is not fresh among the names
-stale : (c : goal.Then-not-is_fresh) → forms.Name c.in-Some.name.now × Apart (texts (vec_items c.loop-i.names)) c.in-Some.name.now → ⊥
-stale c good =
-    let P : List (Bor (List ℕ)) → Type 0 = λ ns. forms.Name c.in-Some.name.now × Apart (texts ns) c.in-Some.name.now in
-    let t = c.is_fresh.ensures.1 (subst P (sym c.as_slice.ensures.value) good) in
-    let z : ◌≡◌ {A = ℕ} 0 1 = cc (t, c.if-not-is_fresh.true) in
-    omega arith
+pub returns-then-not-is_fresh-clause-read : goal.returns-then-not-is_fresh-clause-read
+returns-then-not-is_fresh-clause-read c =
+    let inv = c.loop-line.invariant in
+    let rs = vec_items c.loop-line.names in
+    let cuts = MatchOption-at_some _ _ _ (was_some c.cut.result _ _ c.in_ok-name.ensures.value) c.cut.ensures.text in
+    let stale : Fresh c.in_ok-name.name.now rs → ⊥ = λ good.
+    false≢true (sym c.if-not-is_fresh.true ∙ c.is_fresh.ensures.1 (subst (Fresh c.in_ok-name.name.now) (sym c.as_slice.ensures.value) good)) in
+    names_stop _ _ _ rs _ inv.good inv.split inv.place (omega arith)
+    (bad_line (λ l. Fresh l rs) _ _ (λ l good. name_free 10 l (omega arith) good.0) cuts.0 cuts.1 stale)
 
-pub returns-then-not-is_fresh : goal.returns-then-not-is_fresh
-returns-then-not-is_fresh c =
-    let inv = c.loop-i.invariant in
-    let ns = vec_items c.loop-i.names in
-    let cuts = c.in-Some.ensures.text in
-    record {
-      read = record {
-        done = texts ns;
-        rest = c.loop-i.rest.now;
-        names = inv.1;
-        split = inv.2;
-        few = omega (arith, length-map ns text_of, inv.0);
-        stuck = bad_line (λ l. forms.Name l × Apart (texts ns) l) _ _ (λ l good. name_free 10 l (omega arith) good.0) cuts.0 cuts.1 (stale c);
-        why = refl;
-        line = omega (arith, length-map ns text_of, inv.0);
-      };
-      room = inv.3;
-    }
-
-pub loop-i-preserved : goal.loop-i-preserved
-loop-i-preserved c =
-    let inv = c.loop-i.invariant in
-    let ns = vec_items c.loop-i.names in
-    let cuts = c.in-Some.ensures.text in
-    let l = c.in-Some.name.now in
+pub loop-line-preserved : goal.loop-line-preserved
+loop-line-preserved c =
+    let inv = c.loop-line.invariant in
+    let rs = vec_items c.loop-line.names in
+    let l = c.in_ok-name.name.now in
+    let cuts = MatchOption-at_some _ _ _ (was_some c.cut.result _ _ c.in_ok-name.ensures.value) c.cut.ensures.text in
     let items = c.push_reserved.ensures.items in
-    let grown : texts (vec_items c.push_reserved.new.self) ≡ texts ns ++ l ∷ [] = ap texts items ∙ map_more text_of ns c.in-Some.name in
-    let P : List (Bor (List ℕ)) → Type 0 = λ ns. forms.Name l × Apart (texts ns) l in
-    let fresh : P ns = subst P c.as_slice.ensures.value (c.is_fresh.ensures.0 c.if-not-is_fresh.false) in (
-      omega (arith, ap length items, length-append ns (c.in-Some.name ∷ []), inv.0),
-      subst AllNames (sym grown) (names_more (texts ns) l inv.1 fresh.0 fresh.1),
-      ended_more (texts ns) _ _ inv.2 cuts.1 ∙ ap (λ (ls : List (List ℕ)). ended ls c.in-Some.after.now) (sym grown),
-      omega (arith, c.push_reserved.ensures.capacity, inv.3),
-    )
-
-pub returns : goal.returns
-returns c =
-    let inv = c.loop-i.invariant in
-    let ns = vec_items c.loop-i.names in
-    record { read = (omega (arith, length-map ns text_of, inv.0), inv.1, inv.2); room = inv.3 }
+    let grown : texts (vec_items c.push_reserved.new.self) ≡ texts rs ++ l ∷ [] = ap texts items ∙ map_more text_of rs c.in_ok-name.name in
+    let fresh = subst (Fresh l) c.as_slice.ensures.value (c.is_fresh.ensures.0 c.if-not-is_fresh.false) in
+    record {
+      place = omega (arith, ap length items, length-append rs (c.in_ok-name.name ∷ []), inv.place);
+      good = subst AllNames (sym grown) (names_more (texts rs) l inv.good fresh.0 fresh.1);
+      split = ended_more (texts rs) _ _ inv.split cuts.1 ∙ ap (λ (ls : List (List ℕ)). ended ls c.in_ok-name.after.now) (sym grown);
+      room = omega (arith, c.push_reserved.ensures.capacity, inv.room);
+    }
