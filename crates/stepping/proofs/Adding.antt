@@ -1,23 +1,9 @@
 -- How a text in a buffer grows.
-use Rattle.std.proofs.Common.{◌≡◌, ℕ, ◌+◌, ◌/◌, ◌^◌, ◌<◌, ◌≤◌, List, [], ◌∷◌, ◌++◌, length, take, drop, set, decimal, sym, refl, ap, ◌∙◌, subst, append_assoc, append-nil, arith, length-append, length-drop, take-append-drop, length-take-le, take_at}
+use Rattle.std.proofs.Common.{◌≡◌, ℕ, ◌+◌, ◌<◌, List, [], ◌∷◌, ◌++◌, length, take, drop, set, sym, refl, ap, ◌∙◌, subst, append_assoc, arith, length-append, length-drop, take-append-drop, length-take-le, take_at}
 use Rattle.std.proofs.lemmas.List.{take-set, drop-set}
-use Rattle.std.proofs.lemmas.Slice.{drop-append-drop, put_mid-paste}
-use Rattle.std.proofs.lemmas.List.Edits.{paste_all}
-use borrow.Rule.Slice.PartMut.{put_mid}
-use Rattle.std.proofs.lemmas.Fmt.{decimal_step}
-use Rattle.stepping.specs.Buffers.{Filled, Adds}
-
--- what a write to one part leaves
-pub part_written : (old : List ℕ) (at : ℕ) (text part : List ℕ) (k n : ℕ) → part ≡ text → k ≡ length text → n ≡ at + length text → n ≤ length old → Adds old at text (put_mid at k old part) n
-part_written old at text part k n e f g h = record {
-  end = g;
-  within = h;
-  holds =
-      put_mid-paste at k old part text (length text) e (sym f) refl
-      ∙ paste_all old at text (length text) refl
-      ∙ sym (append_assoc (take at old) text _)
-      ∙ ap (λ m. take at old ++ text ++ drop m old) (sym g);
-}
+use Rattle.std.proofs.lemmas.Slice.{drop-append-drop}
+use Rattle.stepping.specs.declared.putting.LineWriter.{LineWriter}
+use Rattle.stepping.specs.Buffers.{Filled, Adds, Wrote}
 
 -- what a write of one byte leaves
 pub byte_written : (old : List ℕ) (at b : ℕ) → at < length old → Adds old at (b ∷ []) (set old at b) (at + 1)
@@ -46,21 +32,26 @@ both {old} {at} {s} {mid} {k} {t} {new} {n} a b =
       holds = b.holds ∙ (λ i. front i ++ t ++ back i) ∙ ap (λ l. l ++ drop n old) (append_assoc (take at old) s t);
     }
 
-pub same_text : {old : List ℕ} {at : ℕ} {s t new : List ℕ} {n : ℕ} → s ≡ t → Adds old at s new n → Adds old at t new n
-same_text {old} {at} {s} {t} {new} {n} e a = subst (λ l. Adds old at l new n) e a
-
--- no text
-pub nothing : {old : List ℕ} {at : ℕ} → at ≤ length old → Adds old at [] old at
-nothing {old} {at} h = record {
-  end = omega arith;
-  within = h;
-  holds = sym (take-append-drop at old) ∙ ap (λ l. l ++ drop at old) (sym (append-nil (take at old)));
-}
-
 -- from the start of the buffer
 pub filled : {old : List ℕ} {text new : List ℕ} {n : ℕ} → Adds old 0 text new n → Filled old new n text
 filled a = (omega (arith, a.end), a.holds)
 
--- the digits of a number of two or more
-pub longer : (n : ℕ) → 10 ≤ n → n < 2 ^ 64 → length (decimal n) ≡ length (decimal (n / 10)) + 1
-longer n h f = ap length (decimal_step n h f) ∙ length-append (decimal (n / 10)) _
+-- one text after another from a writer
+pub then_wrote : {u v w : LineWriter} {s t : List ℕ} → Wrote u s v → Wrote v t w → Wrote u (s ++ t) w
+then_wrote a b = record {
+  adds = both a.adds b.adds;
+  same_length = b.same_length ∙ a.same_length;
+  same_reference = b.same_reference ∙ a.same_reference;
+}
+
+pub wrote_same : {u w : LineWriter} {s t : List ℕ} → s ≡ t → Wrote u s w → Wrote u t w
+wrote_same {u} {w} {s} {t} e a = subst (λ l. Wrote u l w) e a
+
+-- from the start of the buffer
+pub wrote_all :
+    {u w : LineWriter} {old new text : List ℕ} {n : ℕ} → u.line.now ≡ old → u.at ≡ 0 → new ≡ w.line.now → n ≡ w.at → Wrote u text w →
+    Filled old new n text
+wrote_all {u} {w} {old} {new} {text} {n} e z f k a =
+    let P : List ℕ → ℕ → Type 0 = λ l at. Adds l at text w.line.now w.at in
+    let Q : List ℕ → ℕ → Type 0 = λ l m. Filled old l m text in
+    subst (λ l. Q l n) (sym f) (subst (λ m. Q w.line.now m) (sym k) (filled (subst (λ at. P old at) z (subst (λ l. P l u.at) e a.adds))))

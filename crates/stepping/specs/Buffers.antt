@@ -1,5 +1,6 @@
 -- Text that is written into a lent buffer.
 use Rattle.std.specs.Prelude.{◌≡◌, ℕ, ◌+◌, ◌≤◌, List, ◌++◌, length, take, drop}
+use Rattle.stepping.specs.declared.putting.LineWriter.{LineWriter}
 
 -- Of a buffer that held `old` the first n bytes are now `text`, and the others are as they were.
 abbrev pub Filled : List ℕ → List ℕ → ℕ → List ℕ → Type 0
@@ -10,3 +11,9 @@ pub record Adds (old : List ℕ) (at : ℕ) (text new : List ℕ) (n : ℕ) : Ty
   pub end : n ≡ at + length text
   pub within : n ≤ length old
   pub holds : new ≡ take at old ++ text ++ drop n old
+
+-- A writer added a text at its place, and still writes into the same buffer.
+pub record Wrote (old : LineWriter) (text : List ℕ) (new : LineWriter) : Type 0 where
+  pub adds : Adds old.line.now old.at text new.line.now new.at
+  pub same_length : length new.line.now ≡ length old.line.now
+  pub same_reference : new.line.ghost_name ≡ old.line.ghost_name

@@ -2,3 +2,4 @@ pub mod Taking
 pub mod Buffers
 pub mod Answers
 pub mod Lines
+pub mod Owners

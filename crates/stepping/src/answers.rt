@@ -1,13 +1,14 @@
 //! Writing what a step answers.
-ghost use Rattle.std.specs.Prelude.{◌≡◌, ◌+◌, ◌≤◌, ◌++◌, length, Some, codes, decimal};
-ghost use Rattle.message.specs.Messages.{msg_of};
+ghost use Rattle.std.specs.Prelude.{◌≡◌, ◌+◌, ◌≤◌, ◌++◌, length, codes, decimal};
 ghost use Rattle.broadcast.specs.Bags.{nth};
 ghost use Rattle.ensemble.specs.Whole.{state};
 ghost use Rattle.run_file.specs.Files.{names_of};
-ghost use Rattle.stepping.specs.Buffers.{Adds};
-ghost use Rattle.stepping.specs.Answers.{cell_of_fault, cell_of_busy, refusal_text, told_text, owner_text, judgement_text, answer_text, longest_answer};
+ghost use Rattle.stepping.specs.Buffers.{Wrote};
+ghost use Rattle.stepping.specs.Answers.{cell_of_busy, refusal_text, told_text, owner_text, judgement_text, answer_text, longest_answer};
+ghost use Rattle.stepping.specs.Owners.{told_owner};
 
-use crate::putting::{put, put_number};
+use crate::owners::Owner;
+use crate::putting::LineWriter;
 use bank::{DatabaseBank, ReplicaBank};
 use broadcast::Broadcast;
 use ensemble::Ensemble;
@@ -16,148 +17,124 @@ use message::Message;
 use pronto::{Answer, Refusal, ServerFault};
 use run_file::RunFile;
 
-/// The cell at which a database is busy, where that is why a server refuses.
-fn fault_cell(fault: ServerFault) -> Option<u64>
-    ensures { result ≡ cell_of_fault fault }
-{
-    match fault {
-        ServerFault::Busy(cell) => Some(cell),
-        _ => None,
-    }
-}
-
 /// The cell at which a database is busy, where that is why.
 fn busy_cell(refusal: Refusal) -> Option<u64>
     ensures { result ≡ cell_of_busy refusal }
 {
     match refusal {
-        Refusal::Server(_, fault) => fault_cell(fault),
+        Refusal::Server(_, ServerFault::Busy(cell)) => Some(cell),
         _ => None,
     }
 }
 
-/// `no R`, or `no 13 CELL` where a database is busy.
-fn put_refusal(line: &mut [u8], at: usize, refusal: Refusal) -> usize
-    requires { at + 26 ≤ length line.old }
-    ensures { Adds line.old at (refusal_text refusal) line.new result }
-{
-    let at = put(line, at, b"no ");
-    let at = put_number(line, at, refusal.number());
-    match busy_cell(refusal) {
-        Some(cell) => {
-            let at = put(line, at, b" ");
-            put_number(line, at, cell)
-        }
-        None => at,
-    }
-}
-
-/// `ok N`.
-fn put_told(line: &mut [u8], at: usize, number: u64) -> usize
-    requires { at + 23 ≤ length line.old }
-    ensures text { Adds line.old at (told_text number) line.new result }
-    ensures short { result ≤ at + 23 }
-{
-    let at = put(line, at, b"ok ");
-    put_number(line, at, number)
-}
-
-/// `NAME JOB`.
-fn put_job(line: &mut [u8], at: usize, name: &[u8], job: u32) -> usize
-    requires name { length name.now ≤ 8 }
-    requires room { at + 19 ≤ length line.old }
-    ensures text { Adds line.old at (name.now ++ codes " " ++ decimal job) line.new result }
-    ensures short { result ≤ at + 19 }
-{
-    let at = put(line, at, name);
-    let at = put(line, at, b" ");
-    put_number(line, at, u64::from(job))
-}
-
-/// `NAME JOB` of a transaction; nothing for another message.
-fn put_owner(line: &mut [u8], at: usize, file: &RunFile<'_>, message: &Message) -> usize
-    requires { at + 19 ≤ length line.old }
-    ensures text { Adds line.old at (owner_text (names_of file.now) (Some (msg_of message.now))) line.new result }
-    ensures short { result ≤ at + 19 }
-{
-    match *message {
-        Message::Transaction(transaction) => {
-            let name = file.name(transaction.client);
-            put_job(line, at, name, transaction.job)
-        }
-        Message::Epoch(_) => at,
-    }
-}
-
-/// `NAME JOB` of the message at a position; nothing where it is no transaction.
-fn put_owner_at<B: Broadcast, K: DatabaseBank>(
-    line: &mut [u8],
-    at: usize,
-    file: &RunFile<'_>,
+/// Whose job the message at a position is; `None` where there is no transaction.
+pub(crate) fn owner_at<'f, B: Broadcast, K: DatabaseBank>(
+    file: &RunFile<'f>,
     ensemble: &Ensemble<B, K>,
     position: u64,
-) -> usize
-    requires { at + 19 ≤ length line.old }
-    ensures text { Adds line.old at (owner_text (names_of file.now) (nth (state B.Broadcast K.ReplicaBank K.DatabaseBank.own ensemble.now).log position)) line.new result }
-    ensures short { result ≤ at + 19 }
+) -> Option<Owner<'f>>
+    ensures { told_owner result ≡ owner_text (names_of file.now) (nth (state B.Broadcast K.ReplicaBank K.DatabaseBank.own ensemble.now).log position) }
 {
     match ensemble.message(position) {
-        Ok(message) => put_owner(line, at, file, message),
-        Err(_) => at,
+        Ok(Message::Transaction(transaction)) => Some(Owner {
+            name: file.name(transaction.client),
+            job: transaction.job,
+        }),
+        _ => None,
     }
 }
 
-/// `ok P` and the judgement of the message at that position.
-fn put_delivered<B: Broadcast, K: DatabaseBank>(
-    line: &mut [u8],
-    at: usize,
-    file: &RunFile<'_>,
-    ensemble: &Ensemble<B, K>,
-    position: u64,
-    judgement: Judgement,
-) -> usize
-    requires { at + 70 ≤ length line.old }
-    ensures { Adds line.old at (told_text position ++ judgement_text (owner_text (names_of file.now) (nth (state B.Broadcast K.ReplicaBank K.DatabaseBank.own ensemble.now).log position)) judgement) line.new result }
-{
-    let at = put_told(line, at, position);
-    match judgement {
-        Judgement::Accepted => put(line, at, b" epoch"),
-        Judgement::Stale => put(line, at, b" stale"),
-        Judgement::Committed => {
-            let at = put(line, at, b" commit ");
-            put_owner_at(line, at, file, ensemble, position)
-        }
-        Judgement::Late => {
-            let at = put(line, at, b" late ");
-            put_owner_at(line, at, file, ensemble, position)
-        }
-        Judgement::Again(earlier) => {
-            let at = put(line, at, b" again ");
-            let at = put_owner_at(line, at, file, ensemble, position);
-            let at = put(line, at, b" ");
-            put_number(line, at, earlier)
+impl<'a> LineWriter<'a> {
+    /// `no R`, or `no 13 CELL` where a database is busy.
+    fn refusal(&mut self, refusal: Refusal)
+        requires { self.old.at + 26 ≤ length self.old.line.now }
+        ensures { Wrote self.old (refusal_text refusal) self.new }
+    {
+        self.text(b"no ");
+        self.number(refusal.number());
+        if let Some(cell) = busy_cell(refusal) {
+            self.text(b" ");
+            self.number(cell);
         }
     }
-}
 
-/// Writes an answer.
-pub(crate) fn put_answer<B: Broadcast, K: DatabaseBank>(
-    line: &mut [u8],
-    at: usize,
-    file: &RunFile<'_>,
-    ensemble: &Ensemble<B, K>,
-    answer: Answer,
-) -> usize
-    requires { at + longest_answer answer ≤ length line.old }
-    ensures { Adds line.old at (answer_text (names_of file.now) (state B.Broadcast K.ReplicaBank K.DatabaseBank.own ensemble.now).log answer) line.new result }
-{
-    match answer {
-        Answer::Done => put(line, at, b"ok"),
-        Answer::Result(value) => put_told(line, at, value),
-        Answer::Ordered(position) => put_told(line, at, position),
-        Answer::Delivered(position, judgement) => {
-            put_delivered(line, at, file, ensemble, position, judgement)
+    /// `ok N`.
+    fn told(&mut self, number: u64)
+        requires { self.old.at + 23 ≤ length self.old.line.now }
+        ensures text { Wrote self.old (told_text number) self.new }
+        ensures short { self.new.at ≤ self.old.at + 23 }
+    {
+        self.text(b"ok ");
+        self.number(number);
+    }
+
+    /// `NAME JOB`.
+    fn job(&mut self, name: &[u8], job: u32)
+        requires name { length name.now ≤ 8 }
+        requires room { self.old.at + 19 ≤ length self.old.line.now }
+        ensures text { Wrote self.old (name.now ++ codes " " ++ decimal job) self.new }
+        ensures short { self.new.at ≤ self.old.at + 19 }
+    {
+        self.text(name);
+        self.text(b" ");
+        self.number(u64::from(job));
+    }
+
+    /// `NAME JOB`, or nothing where there is no owner.
+    fn owner(&mut self, owner: Option<Owner<'_>>)
+        requires { self.old.at + 19 ≤ length self.old.line.now }
+        ensures text { Wrote self.old (told_owner owner.entry) self.new }
+        ensures short { self.new.at ≤ self.old.at + 19 }
+    {
+        if let Some(Owner { name, job }) = owner {
+            self.job(name, job);
         }
-        Answer::Refused(refusal) => put_refusal(line, at, refusal),
+    }
+
+    /// `ok P` and the judgement of the message at that position, which has this owner.
+    fn delivered(&mut self, position: u64, judgement: Judgement, owner: Option<Owner<'_>>)
+        requires { self.old.at + 70 ≤ length self.old.line.now }
+        ensures { Wrote self.old (told_text position ++ judgement_text (told_owner owner.entry) judgement) self.new }
+    {
+        self.told(position);
+        match judgement {
+            Judgement::Accepted => self.text(b" epoch"),
+            Judgement::Stale => self.text(b" stale"),
+            Judgement::Committed => {
+                self.text(b" commit ");
+                self.owner(owner);
+            }
+            Judgement::Late => {
+                self.text(b" late ");
+                self.owner(owner);
+            }
+            Judgement::Again(earlier) => {
+                self.text(b" again ");
+                self.owner(owner);
+                self.text(b" ");
+                self.number(earlier);
+            }
+        }
+    }
+
+    /// Writes an answer.
+    pub(crate) fn answer<B: Broadcast, K: DatabaseBank>(
+        &mut self,
+        file: &RunFile<'_>,
+        ensemble: &Ensemble<B, K>,
+        answer: Answer,
+    )
+        requires { self.old.at + longest_answer answer ≤ length self.old.line.now }
+        ensures { Wrote self.old (answer_text (names_of file.now) (state B.Broadcast K.ReplicaBank K.DatabaseBank.own ensemble.now).log answer) self.new }
+    {
+        match answer {
+            Answer::Done => self.text(b"ok"),
+            Answer::Result(number) | Answer::Ordered(number) => self.told(number),
+            Answer::Delivered(position, judgement) => {
+                let owner = owner_at(file, ensemble, position);
+                self.delivered(position, judgement, owner);
+            }
+            Answer::Refused(refusal) => self.refusal(refusal),
+        }
     }
 }

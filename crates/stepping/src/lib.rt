@@ -3,6 +3,7 @@
 
 mod answers;
 pub mod lines;
+mod owners;
 mod putting;
 pub mod taking;
 

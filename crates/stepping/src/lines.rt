@@ -4,8 +4,7 @@ ghost use Rattle.ensemble.specs.Whole.{state};
 ghost use Rattle.run_file.specs.Files.{names_of, lines_of, line_at};
 ghost use Rattle.stepping.specs.Lines.{Steps, fault_text, Writes};
 
-use crate::answers::put_answer;
-use crate::putting::{put, put_number};
+use crate::putting::LineWriter;
 use crate::taking::take;
 use bank::{DatabaseBank, ReplicaBank};
 use broadcast::Broadcast;
@@ -47,9 +46,11 @@ pub fn take_step<B: Broadcast, K: DatabaseBank>(
         return Ok(None);
     };
     let answer = take(ensemble, found.step);
-    let at = put(line, 0, found.text);
-    let at = put(line, at, b" -> ");
-    Ok(Some(put_answer(line, at, file, ensemble, answer)))
+    let mut out = LineWriter::new(line);
+    out.text(found.text);
+    out.text(b" -> ");
+    out.answer(file, ensemble, answer);
+    Ok(Some(out.len()))
 }
 
 /// Writes the line of a faulty file, `file F L`, to the front of the buffer, and answers its length. The other bytes of the buffer stay.
@@ -61,8 +62,10 @@ pub fn write_fault(number: u64, at: u32, line: &mut [u8]) -> Result<usize, Short
     if line.len() < LINE_BYTES {
         return Err(ShortLine);
     }
-    let end = put(line, 0, b"file ");
-    let end = put_number(line, end, number);
-    let end = put(line, end, b" ");
-    Ok(put_number(line, end, u64::from(at)))
+    let mut out = LineWriter::new(line);
+    out.text(b"file ");
+    out.number(number);
+    out.text(b" ");
+    out.number(u64::from(at));
+    Ok(out.len())
 }

@@ -1,34 +1,47 @@
-//! Writing into a lent buffer. Each function writes from a place on, and answers the place after.
-ghost use Rattle.std.specs.Prelude.{◌+◌, ◌<◌, ◌≤◌, [], ◌∷◌, length, decimal};
-ghost use Rattle.stepping.specs.Buffers.{Adds};
+//! Writing texts one after another into a lent buffer.
+ghost use Rattle.std.specs.Prelude.{◌≡◌, ◌+◌, ◌≤◌, length, decimal};
+ghost use Rattle.stepping.specs.Buffers.{Wrote};
 
-/// Writes a text.
-pub(crate) fn put(line: &mut [u8], at: usize, text: &[u8]) -> usize
-    requires { at + length text.now ≤ length line.old }
-    ensures { Adds line.old at text.now line.new result }
-{
-    let end = at + text.len();
-    line[at..end].copy_from_slice(text);
-    end
+/// A buffer, and the place where the next text goes.
+#[derive(Drop)]
+pub(crate) struct LineWriter<'a> {
+    line: &'a mut [u8],
+    at: usize,
 }
 
-fn put_byte(line: &mut [u8], at: usize, byte: u8) -> usize
-    requires { at < length line.old }
-    ensures { Adds line.old at (byte ∷ []) line.new result }
-{
-    line[at] = byte;
-    at + 1
-}
+impl<'a> LineWriter<'a> {
+    /// Writes from the start of the buffer on.
+    pub(crate) fn new(line: &'a mut [u8]) -> LineWriter<'a>
+        ensures same_reference { result.line.ghost_name ≡ line.entry.ghost_name }
+        ensures line { result.line.now ≡ line.old }
+        ensures start { result.at ≡ 0 }
+    {
+        LineWriter { line, at: 0 }
+    }
 
-/// Writes the decimal digits of a number.
-pub(crate) fn put_number(line: &mut [u8], at: usize, number: u64) -> usize
-    requires { at + length (decimal number) ≤ length line.old }
-    ensures { Adds line.old at (decimal number) line.new result }
-{
-    if number < 10 {
-        put_byte(line, at, b'0' + number as u8)
-    } else {
-        let last = put_number(line, at, number / 10);
-        put_byte(line, last, b'0' + (number % 10) as u8)
+    /// How many bytes were written.
+    pub(crate) fn len(&self) -> usize
+        ensures { result ≡ self.now.at }
+    {
+        self.at
+    }
+
+    /// Writes a text.
+    pub(crate) fn text(&mut self, text: &[u8])
+        requires { self.old.at + length text.now ≤ length self.old.line.now }
+        ensures { Wrote self.old text.now self.new }
+    {
+        let end = self.at + text.len();
+        let line = &mut *self.line;
+        line[self.at..end].copy_from_slice(text);
+        self.at = end;
+    }
+
+    /// Writes the decimal digits of a number.
+    pub(crate) fn number(&mut self, number: u64)
+        requires { self.old.at + length (decimal number) ≤ length self.old.line.now }
+        ensures { Wrote self.old (decimal number) self.new }
+    {
+        self.text(itoa::Buffer::new().format(number).as_bytes());
     }
 }

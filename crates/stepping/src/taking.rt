@@ -1,6 +1,4 @@
 //! One step, whichever it is.
-ghost use Rattle.std.specs.Prelude.{◌≡◌};
-ghost use Rattle.pronto.specs.Steps.{result_of};
 ghost use Rattle.ensemble.specs.Whole.{state};
 ghost use Rattle.stepping.specs.Taking.{Takes};
 
@@ -8,17 +6,8 @@ use bank::{DatabaseBank, ReplicaBank};
 use broadcast::Broadcast;
 use ensemble::Ensemble;
 use playing::perform;
-use pronto::{Answer, Refusal};
+use pronto::Answer;
 use run_file::Step;
-
-fn told(outcome: Result<u64, Refusal>) -> Answer
-    ensures { result ≡ result_of outcome }
-{
-    match outcome {
-        Ok(value) => Answer::Result(value),
-        Err(refusal) => Answer::Refused(refusal),
-    }
-}
 
 /// Takes a step, and answers what its act or its question answers.
 pub fn take<B: Broadcast, K: DatabaseBank>(ensemble: &mut Ensemble<B, K>, step: Step) -> Answer
@@ -26,6 +15,8 @@ pub fn take<B: Broadcast, K: DatabaseBank>(ensemble: &mut Ensemble<B, K>, step: 
 {
     match step {
         Step::Act(act) => perform(ensemble, act),
-        Step::Cell(server, cell) => told(ensemble.cell(server, u64::from(cell))),
+        Step::Cell(server, cell) => ensemble
+            .cell(server, u64::from(cell))
+            .map_or_else(Answer::Refused, Answer::Result),
     }
 }
