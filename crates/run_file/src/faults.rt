@@ -35,6 +35,13 @@ pub enum Unread {
 }
 
 impl Why {
+    /// The fault in the line of this number.
+    pub(crate) fn at(self, line: u32) -> FileFault
+        ensures { result ≡ record { why = self; line = line } }
+    {
+        FileFault { why: self, line }
+    }
+
     /// The number of this fault in docs/refusals.md.
     pub fn number(&self) -> u64
         ensures { result ≡ why_number self.now }

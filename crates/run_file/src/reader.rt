@@ -38,13 +38,9 @@ pub(crate) fn read_names<'a>(
 {
     let mut rest = text;
     for line in 2..count + 2 {
-        let fault = FileFault {
-            why: Why::Name,
-            line,
-        };
-        let (name, after) = cut(rest, b'\n').ok_or(fault)?;
+        let (name, after) = cut(rest, b'\n').ok_or(Why::Name.at(line))?;
         if !is_fresh(names.as_slice(), name) {
-            return Err(fault);
+            return Err(Why::Name.at(line));
         }
         names.push_reserved(name);
         rest = after;
@@ -69,25 +65,14 @@ pub(crate) fn read_steps<'a>(
 {
     let mut rest = text;
     for number in first..first + count {
-        let wrong = FileFault {
-            why: Why::Step,
-            line: number,
-        };
-        let unlisted = FileFault {
-            why: Why::Unlisted,
-            line: number,
-        };
-        let (line, after) = cut(rest, b'\n').ok_or(wrong)?;
-        let command = parse(line, number).ok_or(wrong)?;
-        let step = clients.step(command).ok_or(unlisted)?;
+        let (line, after) = cut(rest, b'\n').ok_or(Why::Step.at(number))?;
+        let command = parse(line, number).ok_or(Why::Step.at(number))?;
+        let step = clients.step(command).ok_or(Why::Unlisted.at(number))?;
         lines.push_reserved(Line { text: line, step });
         rest = after;
     }
     if !rest.is_empty() {
-        return Err(FileFault {
-            why: Why::Leftover,
-            line: first + count,
-        });
+        return Err(Why::Leftover.at(first + count));
     }
     Ok(())
 }
@@ -96,12 +81,8 @@ pub(crate) fn read_steps<'a>(
 fn read_head(text: &[u8], section: Section, number: u32) -> Result<(u32, &[u8]), FileFault>
     ensures { HeadRead section text.now number result }
 {
-    let fault = FileFault {
-        why: Why::Head,
-        line: number,
-    };
-    let (line, rest) = cut(text, b'\n').ok_or(fault)?;
-    let count = section.count(line, number).ok_or(fault)?;
+    let (line, rest) = cut(text, b'\n').ok_or(Why::Head.at(number))?;
+    let count = section.count(line, number).ok_or(Why::Head.at(number))?;
     Ok((count as u32, rest))
 }
 
@@ -118,10 +99,7 @@ pub(crate) fn read_file<'a>(
     ensures room { (vec_capacity names.new ≡ vec_capacity names.old) × (vec_capacity lines.new ≡ vec_capacity lines.old) }
 {
     if text.len() > BYTES {
-        return Err(FileFault {
-            why: Why::TooLong,
-            line: 0,
-        });
+        return Err(Why::TooLong.at(0));
     }
     let (count, rest) = read_head(text, Section::Names, 1)?;
     let rest = read_names(rest, count, names)?;

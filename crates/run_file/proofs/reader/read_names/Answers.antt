@@ -16,7 +16,7 @@ returns-in_err-name-clause-read c =
     let p = err_from_is_err_and c.from_residual.result c.from_residual.ensures.1 in
     let w = was_none c.cut.result _ _ c.in_err-name.ensures.value in
     let free = MatchOption-at_none _ _ w.0 c.cut.ensures.text in
-    rw (p.1, p.2, w.1) (names_stop _ _ _ (vec_items c.loop-line.names) _ inv.good inv.split inv.place (omega arith) (no_line _ _ free))
+    rw (p.1, p.2, w.1, c.at.ensures) (names_stop _ _ _ (vec_items c.loop-line.names) _ inv.good inv.split inv.place (omega arith) (no_line _ _ free))
 
 -- what is fresh among the slice is fresh among the names
 abbrev Fresh : List ℕ → List (Bor (List ℕ)) → Type 0
@@ -29,8 +29,9 @@ returns-then-not-is_fresh-clause-read c =
     let cuts = MatchOption-at_some _ _ _ (was_some c.cut.result _ _ c.in_ok-name.ensures.value) c.cut.ensures.text in
     let stale : Fresh c.in_ok-name.name.now rs → ⊥ = λ good.
     false≢true (sym c.if-not-is_fresh.true ∙ c.is_fresh.ensures.1 (subst (Fresh c.in_ok-name.name.now) (sym c.as_slice.ensures.value) good)) in
-    names_stop _ _ _ rs _ inv.good inv.split inv.place (omega arith)
-    (bad_line (λ l. Fresh l rs) _ _ (λ l good. name_free 10 l (omega arith) good.0) cuts.0 cuts.1 stale)
+    rw c.at-then-not-is_fresh.ensures
+    (names_stop _ _ _ rs _ inv.good inv.split inv.place (omega arith)
+    (bad_line (λ l. Fresh l rs) _ _ (λ l good. name_free 10 l (omega arith) good.0) cuts.0 cuts.1 stale))
 
 pub loop-line-preserved : goal.loop-line-preserved
 loop-line-preserved c =

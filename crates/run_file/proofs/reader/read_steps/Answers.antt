@@ -16,7 +16,7 @@ returns-in_err-line-clause-read c =
     let p = err_from_is_err_and c.from_residual.result c.from_residual.ensures.1 in
     let w = was_none c.cut.result _ _ c.in_err-line.ensures.value in
     let none = no_command_free _ (MatchOption-at_none _ _ w.0 c.cut.ensures.text) in
-    rw (p.1, p.2, w.1) (no_command_stops _ _ _ _ _ (vec_items c.loop-number.lines) _ inv.good inv.split inv.place (omega arith) none)
+    rw (p.1, p.2, w.1, c.at.ensures) (no_command_stops _ _ _ _ _ (vec_items c.loop-number.lines) _ inv.good inv.split inv.place (omega arith) none)
 
 pub returns-in_err-command-clause-read : goal.returns-in_err-command-clause-read
 returns-in_err-command-clause-read c =
@@ -25,7 +25,7 @@ returns-in_err-command-clause-read c =
     let cuts = MatchOption-at_some _ _ _ (was_some c.cut.result _ _ c.in_ok-line.ensures.value) c.cut.ensures.text in
     let w = was_none c.parse.result _ _ c.in_err-command.ensures.value in
     let none = no_command_line _ _ cuts.0 cuts.1 (MatchOption-at_none _ _ w.0 c.parse.ensures) in
-    rw (p.1, p.2, w.1) (no_command_stops _ _ _ _ _ (vec_items c.loop-number.lines) _ inv.good inv.split inv.place (omega arith) none)
+    rw (p.1, p.2, w.1, c.at-in-loop-number.ensures) (no_command_stops _ _ _ _ _ (vec_items c.loop-number.lines) _ inv.good inv.split inv.place (omega arith) none)
 
 pub returns-in_err-step-clause-read : goal.returns-in_err-step-clause-read
 returns-in_err-step-clause-read c =
@@ -35,7 +35,7 @@ returns-in_err-step-clause-read c =
     let said = MatchOption-at_some _ _ _ (was_some c.parse.result _ _ c.in_ok-command.ensures.value) c.parse.ensures in
     let w = was_none c.step.result _ _ c.in_err-step.ensures.value in
     let none = MatchOption-at_none _ _ w.0 c.step.ensures in
-    rw (p.1, p.2, w.1)
+    rw (p.1, p.2, w.1, c.at-in-loop-number-2.ensures)
     (unlisted_stops _ _ _ _ _ (vec_items c.loop-number.lines) _ _ c.in_ok-command.command inv.good inv.split inv.place (omega arith) cuts.0 cuts.1
     said.0 said.1 none)
 
@@ -61,5 +61,6 @@ loop-number-preserved c =
 pub returns-then-not-is_empty-clause-read : goal.returns-then-not-is_empty-clause-read
 returns-then-not-is_empty-clause-read c =
     let inv = c.loop-number.invariant in
-    leftover_stops _ _ _ _ _ (vec_items c.loop-number.lines) _ inv.good inv.split (omega arith) (omega arith)
-    (λ e. eqb-false _ 0 (sym c.if-not-is_empty.ensures) (ap length e))
+    rw c.at-then-not-is_empty.ensures
+    (leftover_stops _ _ _ _ _ (vec_items c.loop-number.lines) _ inv.good inv.split (omega arith) (omega arith)
+    (λ e. eqb-false _ 0 (sym c.if-not-is_empty.ensures) (ap length e)))
