@@ -1,5 +1,5 @@
 -- What follows the words of a target, and what follows the words of a command.
-use Rattle.std.proofs.Common.{◌≡◌, ℕ, ◌+◌, Bool, true, false, List, [], ◌++◌, length, Some, None, Option, Decides, sym, refl, ap, ◌∙◌, subst, append-nil, arith, length-append}
+use Rattle.std.proofs.Common.{◌≡◌, ℕ, ◌+◌, Bool, true, false, List, [], ◌++◌, length, Some, Decides, sym, refl, ap, ◌∙◌, append-nil, arith, length-append}
 use Rattle.std.specs.Bool.{then_some}
 use Rattle.std.proofs.lemmas.Bool.{false≢true}
 use Rattle.std.proofs.lemmas.List.{nil_from_length}
@@ -14,12 +14,6 @@ use Rattle.commands.specs.Lines.{Unspelt, Spelt, SpeltInFront}
 pub past_target :
     {was : List (List ℕ)} (s t : Target) {vs ws : List (List ℕ)} → was ≡ target_words s ++ vs → was ≡ target_words t ++ ws → vs ≡ ws
 past_target s t p q = cc
-
--- no command with an opening that is known
-pub none_in_front :
-    {r : Option Command} (o : Opening) {p : Opening} (was is : List (List ℕ)) → o ≡ p → r ≡ None → Unspelt p was → SpeltInFront o r was is
-none_in_front o was is e n u =
-    subst (λ (q : Option Command). SpeltInFront o q was is) (sym n) (subst (λ (q : Opening). SpeltInFront q None was is) (sym e) u)
 
 -- all commands with an opening have as many words
 abbrev many : Opening → ℕ

@@ -12,6 +12,7 @@ pub fn cut(bytes: &[u8], stop: u8) -> Option<(&[u8], &[u8])>
 }
 
 /// Whether two texts are the same.
+// kept: (d) a public promise; within the repository `==` itself is written, which says the same.
 pub fn same(text: &[u8], word: &[u8]) -> bool
     ensures { Decides result (text.now ≡ word.now) }
 {

@@ -28,7 +28,7 @@ fn step_into<B: Broadcast, K: DatabaseBank>(
 {
     let end = at + LINE_BYTES;
     let Ok(Some(n)) = take_step(file, place, ensemble, &mut output[at..end]) else {
-        return at;
+        unreachable!()
     };
     output[at + n] = b'\n';
     at + n + 1

@@ -1,4 +1,4 @@
-use Rattle.std.proofs.Common.{◌≡◌, MatchOption, Option, sym, subst}
+use Rattle.std.proofs.Common.{◌≡◌, sym, subst}
 use Rattle.std.specs.Str.{IsUtf8}
 use Rattle.lexing.proofs.Utf8.{no_text, the_text}
 use Rattle.commands.specs.declared.openings.Opening.{Opening}
@@ -11,8 +11,7 @@ returns-in_err-ok c =
     let bs = c.args.word.now in
     let none : (o : Opening) → bs ≡ opening_text o → ⊥ = λ o e.
     no_text c.from_utf8.result _ _ _ c.in_err-ok.ensures.value c.from_utf8.ensures.cases (subst IsUtf8 (sym e) (opening_utf8 o)) in
-    subst (λ (r : Option Opening). MatchOption r ((o : Opening) → bs ≡ opening_text o → ⊥) (λ o. bs ≡ opening_text o))
-    (sym c.from_residual.ensures) none
+    rw c.from_residual.ensures none
 
 pub returns-in_default : goal.returns-in_default
 returns-in_default c =

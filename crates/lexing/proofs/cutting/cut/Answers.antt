@@ -1,8 +1,8 @@
-use Rattle.std.proofs.Common.{◌≡◌, ◌<◌, ℕ, List, [], ◌∷◌, ◌++◌, length, MatchOption, None, Option, sym, ap, ◌∙◌, subst, arith, rules, tests, Bor}
+use Rattle.std.proofs.Common.{◌≡◌, ◌<◌, ℕ, List, length, MatchOption, Option, ap, ◌∙◌, arith, rules, tests}
 use Rattle.std.specs.List.{AllWithin, HoldsAt}
 use Rattle.std.proofs.lemmas.Iterator.{IsFirst-from_position, YieldsList-from_slice}
 use Rattle.std.proofs.lemmas.Option.{MatchOption-at_none, MatchOption-at_some}
-use Rattle.lexing.specs.Parts.{parts, Free}
+use Rattle.lexing.specs.Parts.{parts}
 use Rattle.lexing.proofs.Cuts.{cut_at, parts_cut, parts_free, free_by_index}
 use Rattle.lexing.proofs.cutting.cut.Goals as goal
 use Rattle.lexing.proofs.cutting.cut.Goals.{After-position}
@@ -19,22 +19,13 @@ first c =
     IsFirst-from_position _ _ _ (λ b. b ≡ s) (λ b. b ≡ s → ⊥) c.position.ensures.ran (YieldsList-from_slice c.args.bytes.now cc)
     (λ x q k. search (rules, tests)) (λ x q k. search (rules, tests))
 
-abbrev Cut : Type 0
-Cut = Option (Bor (List ℕ) × Bor (List ℕ))
-
-cut_none : {r : Cut} (P : Type 0) (Q : Bor (List ℕ) × Bor (List ℕ) → Type 0) → r ≡ None → P → MatchOption r P Q
-cut_none P Q e p = subst (λ (r : Cut). MatchOption r P Q) (sym e) p
-
 pub returns-in_err-i : goal.returns-in_err-i
 returns-in_err-i c =
     let s = c.args.stop in
     let bs = c.args.bytes.now in
     let none = MatchOption-at_none _ _ c.in_err-i.was (first (goal.at.returns-in_err-i c).After-position) in
     let f = free_by_index s bs (λ k h. none k 0 (omega arith) h) in
-    record {
-      text = cut_none (Free s bs) (λ p. Free s p.0.now × (bs ≡ p.0.now ++ (s ∷ p.1.now))) c.from_residual.ensures f;
-      parts = cut_none (parts s bs ≡ bs ∷ []) (λ p. parts s bs ≡ p.0.now ∷ parts s p.1.now) c.from_residual.ensures (parts_free _ _ f);
-    }
+    record { text = rw c.from_residual.ensures f; parts = rw c.from_residual.ensures (parts_free _ _ f) }
 
 pub returns : goal.returns
 returns c =

@@ -1,4 +1,4 @@
-use Rattle.std.proofs.Common.{◌≡◌, ℕ, ◌<◌, ◌⊎◌, Bool, true, false, eqb, List, length, get_or, Ok, Err, Result, MatchOption, MatchResult, Option, ◌≢◌, sym, ◌∙◌, subst, inl, inr, ⊎_elim, arith, true-eqb, eq-eqb}
+use Rattle.std.proofs.Common.{◌≡◌, ℕ, ◌<◌, ◌⊎◌, Bool, true, false, eqb, length, get_or, Ok, Err, Result, MatchOption, MatchResult, ◌≢◌, sym, ◌∙◌, subst, inl, inr, ⊎_elim, arith, true-eqb, eq-eqb}
 use Rattle.std.specs.Result.{result_ok}
 use Rattle.std.specs.Str.Parse.{ParsesUnsigned}
 use Rattle.lexing.specs.Forms as forms
@@ -23,9 +23,6 @@ returns-then-word-eq43 c n w =
       | else-word-eq48 v ↦ no_plus _ s (true-eqb _ 43 (sym c.if-word-eq43.true ∙ v.value-is))
     ]
 
-abbrev Tells : List ℕ → Option ℕ → Type 0
-Tells bs r = MatchOption r (forms.Word bs) (λ n. forms.Writes n bs)
-
 -- what `parse` gave
 the_number : {E : Type 0} (r : Result ℕ E) (P : ℕ → Type 0) (Q : Type 0) → MatchResult r P (λ _. Q) → MatchOption (result_ok r) Q P
 the_number (Ok n) P Q h = h
@@ -35,7 +32,7 @@ pub returns-in_err-ok : goal.returns-in_err-ok
 returns-in_err-ok c =
     let none : forms.Word c.args.word.now = λ n w.
     no_text c.from_utf8.result _ _ _ c.in_err-ok.ensures.value c.from_utf8.ensures.cases (number_utf8 n _ w) in
-    subst (Tells c.args.word.now) (sym c.from_residual.ensures) none
+    rw c.from_residual.ensures none
 
 pub returns : goal.returns
 returns c =
@@ -53,4 +50,4 @@ returns c =
     ] in
     let read = subst (λ t. ParsesUnsigned 64 10 t c.parse.result) same c.parse.ensures.value.0 in
     let told = parsed bs c.parse.result read c.if-word-gt-DIGITS.false plain in
-    subst (Tells bs) (sym c.ok-2.ensures.value) (the_number c.parse.result _ _ told)
+    rw c.ok-2.ensures.value (the_number c.parse.result _ _ told)
