@@ -9,7 +9,7 @@ use crate::shapes::{Command, Target};
 use lexing::Lexer;
 
 /// The largest job.
-const LAST_JOB: u64 = 4_294_967_295;
+const LAST_JOB: u64 = u32::MAX as u64;
 
 /// Values have at most 18 digits.
 const LAST_VALUE: u64 = 999_999_999_999_999_999;

@@ -12,6 +12,10 @@ pub record Adds (old : List ℕ) (at : ℕ) (text new : List ℕ) (n : ℕ) : Ty
   pub within : n ≤ length old
   pub holds : new ≡ take at old ++ text ++ drop n old
 
+-- A writer has room for so many bytes.
+abbrev pub HasRoom : LineWriter → ℕ → Type 0
+HasRoom w n = w.at + n ≤ length w.line.now
+
 -- A writer added a text at its place, and still writes into the same buffer.
 pub record Wrote (old : LineWriter) (text : List ℕ) (new : LineWriter) : Type 0 where
   pub adds : Adds old.line.now old.at text new.line.now new.at

@@ -3,7 +3,7 @@ ghost use Rattle.std.specs.Prelude.{◌≡◌, ◌+◌, ◌≤◌, ◌++◌, len
 ghost use Rattle.broadcast.specs.Bags.{nth};
 ghost use Rattle.ensemble.specs.Whole.{state};
 ghost use Rattle.run_file.specs.Files.{names_of};
-ghost use Rattle.stepping.specs.Buffers.{Wrote};
+ghost use Rattle.stepping.specs.Buffers.{HasRoom, Wrote};
 ghost use Rattle.stepping.specs.Answers.{cell_of_busy, refusal_text, told_text, owner_text, judgement_text, answer_text, longest_answer};
 ghost use Rattle.stepping.specs.Owners.{told_owner};
 
@@ -47,7 +47,7 @@ pub(crate) fn owner_at<'f, B: Broadcast, K: DatabaseBank>(
 impl<'a> LineWriter<'a> {
     /// `no R`, or `no 13 CELL` where a database is busy.
     fn refusal(&mut self, refusal: Refusal)
-        requires { self.old.at + 26 ≤ length self.old.line.now }
+        requires { HasRoom self.old 26 }
         ensures { Wrote self.old (refusal_text refusal) self.new }
     {
         self.text(b"no ");
@@ -60,7 +60,7 @@ impl<'a> LineWriter<'a> {
 
     /// `ok N`.
     fn told(&mut self, number: u64)
-        requires { self.old.at + 23 ≤ length self.old.line.now }
+        requires { HasRoom self.old 23 }
         ensures text { Wrote self.old (told_text number) self.new }
         ensures short { self.new.at ≤ self.old.at + 23 }
     {
@@ -71,7 +71,7 @@ impl<'a> LineWriter<'a> {
     /// `NAME JOB`.
     fn job(&mut self, name: &[u8], job: u32)
         requires name { length name.now ≤ 8 }
-        requires room { self.old.at + 19 ≤ length self.old.line.now }
+        requires room { HasRoom self.old 19 }
         ensures text { Wrote self.old (name.now ++ codes " " ++ decimal job) self.new }
         ensures short { self.new.at ≤ self.old.at + 19 }
     {
@@ -82,7 +82,7 @@ impl<'a> LineWriter<'a> {
 
     /// `NAME JOB`, or nothing where there is no owner.
     fn owner(&mut self, owner: Option<Owner<'_>>)
-        requires { self.old.at + 19 ≤ length self.old.line.now }
+        requires { HasRoom self.old 19 }
         ensures text { Wrote self.old (told_owner owner.entry) self.new }
         ensures short { self.new.at ≤ self.old.at + 19 }
     {
@@ -93,7 +93,7 @@ impl<'a> LineWriter<'a> {
 
     /// `ok P` and the judgement of the message at that position, which has this owner.
     fn delivered(&mut self, position: u64, judgement: Judgement, owner: Option<Owner<'_>>)
-        requires { self.old.at + 70 ≤ length self.old.line.now }
+        requires { HasRoom self.old 70 }
         ensures { Wrote self.old (told_text position ++ judgement_text (told_owner owner.entry) judgement) self.new }
     {
         self.told(position);
@@ -124,7 +124,7 @@ impl<'a> LineWriter<'a> {
         ensemble: &Ensemble<B, K>,
         answer: Answer,
     )
-        requires { self.old.at + longest_answer answer ≤ length self.old.line.now }
+        requires { HasRoom self.old (longest_answer answer) }
         ensures { Wrote self.old (answer_text (names_of file.now) (state B.Broadcast K.ReplicaBank K.DatabaseBank.own ensemble.now).log answer) self.new }
     {
         match answer {

@@ -1,6 +1,6 @@
 //! Writing texts one after another into a lent buffer.
 ghost use Rattle.std.specs.Prelude.{◌≡◌, ◌+◌, ◌≤◌, length, decimal};
-ghost use Rattle.stepping.specs.Buffers.{Wrote};
+ghost use Rattle.stepping.specs.Buffers.{HasRoom, Wrote};
 
 /// A buffer, and the place where the next text goes.
 #[derive(Drop)]
@@ -28,7 +28,7 @@ impl<'a> LineWriter<'a> {
 
     /// Writes a text.
     pub(crate) fn text(&mut self, text: &[u8])
-        requires { self.old.at + length text.now ≤ length self.old.line.now }
+        requires { HasRoom self.old (length text.now) }
         ensures { Wrote self.old text.now self.new }
     {
         let end = self.at + text.len();
@@ -39,7 +39,7 @@ impl<'a> LineWriter<'a> {
 
     /// Writes the decimal digits of a number.
     pub(crate) fn number(&mut self, number: u64)
-        requires { self.old.at + length (decimal number) ≤ length self.old.line.now }
+        requires { HasRoom self.old (length (decimal number)) }
         ensures { Wrote self.old (decimal number) self.new }
     {
         self.text(itoa::Buffer::new().format(number).as_bytes());
