@@ -38,11 +38,11 @@ impl<'a> RunFile<'a> {
         if self.names.capacity() < NAMES || self.lines.capacity() < STEPS {
             return Err(Unread::NoRoom);
         }
-        let Err(fault) = read_file(text, &mut self.names, &mut self.lines) else {
-            return Ok(());
-        };
-        self.names.clear();
-        self.lines.clear();
-        Err(Unread::Faulty(fault))
+        let outcome = read_file(text, &mut self.names, &mut self.lines);
+        if outcome.is_err() {
+            self.names.clear();
+            self.lines.clear();
+        }
+        outcome.map_err(Unread::Faulty)
     }
 }
