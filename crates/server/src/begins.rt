@@ -7,9 +7,9 @@ use crate::servers::Server;
 use crate::states::State;
 use bank::DatabaseBank;
 use message::Notes;
-use pronto::ServerFault;
+use pronto::{ServerFault, TransactionId};
 
-/// Opens a transaction of a client's job in a free slot, at the server of this number among so many.
+/// Opens the transaction of a client's job in a free slot, at its server among so many.
 ///
 /// Refused where the server is stopped, the client does not exist, the server is not the primary of its epoch or has a bar, the job is
 /// open here already, or eight transactions are.
@@ -18,19 +18,17 @@ pub fn begin<K: DatabaseBank>(
     bank: &mut K,
     place: u64,
     count: ServerCount,
-    number: u8,
-    client: u8,
-    job: u32,
+    id: TransactionId,
 ) -> Result<(), ServerFault>
-    ensures { Begins K.ReplicaBank.size count.count number client job result place server.old (K.ReplicaBank.meanings bank.old) server.new (K.ReplicaBank.meanings bank.new) }
+    ensures { Begins K.ReplicaBank.size count.count id.server id.client id.job result place server.old (K.ReplicaBank.meanings bank.old) server.new (K.ReplicaBank.meanings bank.new) }
 {
-    let slot = server.look_begin(count, number, client, job)?;
+    let slot = server.look_begin(count, id)?;
     bank.open(place, slot)?;
     server.put(
         slot,
         Some(Row {
-            client,
-            job,
+            client: id.client,
+            job: id.job,
             notes: Notes::new(),
             state: State::Executing,
         }),

@@ -5,7 +5,7 @@ use crate::rows::Row;
 use crate::servers::Server;
 use crate::states::Arrival;
 use bank::DatabaseBank;
-use pronto::ServerFault;
+use pronto::{ServerFault, TransactionId};
 use statement::Operation;
 
 /// Runs the operation on the cell in the transaction of a client's job, notes it, and answers its result.
@@ -16,14 +16,13 @@ pub fn run<K: DatabaseBank>(
     server: &mut Server,
     bank: &mut K,
     place: u64,
-    client: u8,
-    job: u32,
+    id: TransactionId,
     cell: u64,
     operation: Operation,
 ) -> Result<u64, ServerFault>
-    ensures { Runs K.DatabaseBank.units client job cell operation result place server.old (K.ReplicaBank.meanings bank.old) server.new (K.ReplicaBank.meanings bank.new) }
+    ensures { Runs K.DatabaseBank.units id.client id.job cell operation result place server.old (K.ReplicaBank.meanings bank.old) server.new (K.ReplicaBank.meanings bank.new) }
 {
-    let looked = server.look_run(client, job, cell, operation)?;
+    let looked = server.look_run(id, cell, operation)?;
     let (statement, transaction) = looked;
     let result = bank.run(place, transaction.slot, &statement)?;
     let Some(notes) = transaction.row.notes.with(statement, result) else {
@@ -47,12 +46,11 @@ pub fn abort<K: DatabaseBank>(
     server: &mut Server,
     bank: &mut K,
     place: u64,
-    client: u8,
-    job: u32,
+    id: TransactionId,
 ) -> Result<(), ServerFault>
-    ensures { Aborts client job result place server.old (K.ReplicaBank.meanings bank.old) server.new (K.ReplicaBank.meanings bank.new) }
+    ensures { Aborts id.client id.job result place server.old (K.ReplicaBank.meanings bank.old) server.new (K.ReplicaBank.meanings bank.new) }
 {
-    let transaction = server.look_open(client, job, Arrival::Abort)?;
+    let transaction = server.look_open(id, Arrival::Abort)?;
     bank.undo(place, transaction.slot)?;
     server.settle(transaction.slot, transaction.row, transaction.outcome);
     Ok(())

@@ -14,40 +14,38 @@ use crate::states::{Arrival, Outcome, arrive};
 use broadcast::Broadcast;
 use journal::{Judgement, judge, primary};
 use message::{Message, STATEMENTS, Transaction};
-use pronto::ServerFault;
+use pronto::{ServerFault, TransactionId};
 use statement::{Operation, Statement};
 
 /// Clients are 0 to 15.
-const LAST_CLIENT: u8 = 15;
+pub const LAST_CLIENT: u8 = 15;
 
 impl Server {
     /// The slot that a begin takes.
     pub(crate) fn look_begin(
         &self,
         count: ServerCount,
-        number: u8,
-        client: u8,
-        job: u32,
+        id: TransactionId,
     ) -> Result<usize, ServerFault>
         ensures low { IfOk result (λ p. p < 8) }
-        ensures looks { (m : Meaning) → Looks result (first (begin_table count.count number (shown self.now m) client job)) (FreeIn (shown self.now m)) }
+        ensures looks { (m : Meaning) → Looks result (first (begin_table count.count id.server (shown self.now m) id.client id.job)) (FreeIn (shown self.now m)) }
     {
         if !self.running {
             return Err(ServerFault::Stopped);
         }
-        if client > LAST_CLIENT {
+        if id.client > LAST_CLIENT {
             return Err(ServerFault::NoClient);
         }
         let Some(leader) = primary(u64::from(count.get()), self.epoch) else {
             return Err(ServerFault::NotPrimary);
         };
-        if u64::from(number) != leader {
+        if u64::from(id.server) != leader {
             return Err(ServerFault::NotPrimary);
         }
         if self.bar.is_some() {
             return Err(ServerFault::Barred);
         }
-        let None = self.find(client, job) else {
+        let None = self.find(id.client, id.job) else {
             return Err(ServerFault::AlreadyOpen);
         };
         let Some(slot) = self.free_slot() else {
@@ -59,24 +57,23 @@ impl Server {
     /// The statement that a run runs, and the transaction that runs it.
     pub(crate) fn look_run(
         &self,
-        client: u8,
-        job: u32,
+        id: TransactionId,
         cell: u64,
         operation: Operation,
     ) -> Result<(Statement, Open), ServerFault>
         ensures low { IfOk result (λ x. x.1.slot < 8) }
-        ensures looks { (m : Meaning) → Looks result (first (run_table (shown self.now m) client job cell operation)) (Runnable cell operation (find (shown self.now m) client job)) }
+        ensures looks { (m : Meaning) → Looks result (first (run_table (shown self.now m) id.client id.job cell operation)) (Runnable cell operation (find (shown self.now m) id.client id.job)) }
     {
         if !self.running {
             return Err(ServerFault::Stopped);
         }
-        if client > LAST_CLIENT {
+        if id.client > LAST_CLIENT {
             return Err(ServerFault::NoClient);
         }
         let Ok(statement) = Statement::new(cell, operation) else {
             return Err(ServerFault::NoCell);
         };
-        let Some(found) = self.find(client, job) else {
+        let Some(found) = self.find(id.client, id.job) else {
             return Err(ServerFault::NoTransaction);
         };
         let (slot, row) = found;
@@ -88,23 +85,18 @@ impl Server {
     }
 
     /// The transaction that is committed or aborted.
-    pub(crate) fn look_open(
-        &self,
-        client: u8,
-        job: u32,
-        arrival: Arrival,
-    ) -> Result<Open, ServerFault>
+    pub(crate) fn look_open(&self, id: TransactionId, arrival: Arrival) -> Result<Open, ServerFault>
         requires { asks arrival ≡ true }
         ensures low { IfOk result (λ x. x.slot < 8) }
-        ensures looks { (m : Meaning) → Looks result (first (open_table (shown self.now m) client job)) (Found arrival (find (shown self.now m) client job)) }
+        ensures looks { (m : Meaning) → Looks result (first (open_table (shown self.now m) id.client id.job)) (Found arrival (find (shown self.now m) id.client id.job)) }
     {
         if !self.running {
             return Err(ServerFault::Stopped);
         }
-        if client > LAST_CLIENT {
+        if id.client > LAST_CLIENT {
             return Err(ServerFault::NoClient);
         }
-        let Some(found) = self.find(client, job) else {
+        let Some(found) = self.find(id.client, id.job) else {
             return Err(ServerFault::NoTransaction);
         };
         let (slot, row) = found;

@@ -10,23 +10,18 @@ ghost use Rattle.server.specs.Looking.{Looks};
 use super::Server;
 use crate::states::{Arrival, arrive};
 use message::{EpochChange, Transaction};
-use pronto::ServerFault;
+use pronto::{ServerFault, TransactionId};
 
 impl Server {
-    /// The message that a commit of a client's job offers, at the server of this number. It changes nothing yet.
+    /// The message that a commit of a client's job offers, at its server. It changes nothing yet.
     ///
     /// Refused where the server is stopped, the client does not exist, the job is not open, or it is committing.
-    pub fn commit_message(
-        &self,
-        number: u8,
-        client: u8,
-        job: u32,
-    ) -> Result<Transaction, ServerFault>
-        ensures { (m : Meaning) → Looks result (first (open_table (shown self.now m) client job)) (λ t. transaction (tx_of t) ≡ message_to_commit number (shown self.now m) client job) }
+    pub fn commit_message(&self, id: TransactionId) -> Result<Transaction, ServerFault>
+        ensures { (m : Meaning) → Looks result (first (open_table (shown self.now m) id.client id.job)) (λ t. transaction (tx_of t) ≡ message_to_commit id.server (shown self.now m) id.client id.job) }
     {
-        let transaction = self.look_open(client, job, Arrival::Commit)?;
+        let transaction = self.look_open(id, Arrival::Commit)?;
         Ok(Transaction {
-            sender: number,
+            sender: id.server,
             epoch: self.epoch,
             client: transaction.row.client,
             job: transaction.row.job,
@@ -35,10 +30,10 @@ impl Server {
     }
 
     /// The client's job is committing from now on: its message is offered. Nothing changes where it is not open.
-    pub fn send_off(&mut self, client: u8, job: u32)
-        ensures { (m : Meaning) → shown self.new m ≡ commit_after (shown self.old m) client job }
+    pub fn send_off(&mut self, id: TransactionId)
+        ensures { (m : Meaning) → shown self.new m ≡ commit_after (shown self.old m) id.client id.job }
     {
-        let Some(found) = self.find(client, job) else {
+        let Some(found) = self.find(id.client, id.job) else {
             return;
         };
         let (slot, row) = found;

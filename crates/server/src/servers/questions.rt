@@ -8,6 +8,7 @@ ghost use Rattle.server.specs.Looking.{state_told, state_found};
 
 use super::Server;
 use crate::states::State;
+use pronto::TransactionId;
 use replica::SLOTS;
 
 impl Server {
@@ -46,10 +47,10 @@ impl Server {
     }
 
     /// How far the transaction of a client's job is; `None` exactly where there is none.
-    pub fn transaction_state(&self, client: u8, job: u32) -> Option<State>
-        ensures { (m : Meaning) → state_told result ≡ state_found (find (shown self.now m) client job) }
+    pub fn transaction_state(&self, id: TransactionId) -> Option<State>
+        ensures { (m : Meaning) → state_told result ≡ state_found (find (shown self.now m) id.client id.job) }
     {
-        let Some(found) = self.find(client, job) else {
+        let Some(found) = self.find(id.client, id.job) else {
             return None;
         };
         Some(found.1.state)

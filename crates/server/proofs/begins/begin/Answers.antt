@@ -25,8 +25,8 @@ returns-in_err-slot g c =
       slot = 0;
       free = λ h. let z : ◌≡◌ {A = ℕ} 0 1 = cc (look, h) in absurd (omega arith);
       settled =
-          refused (λ s. begin_why size a.place n a.number s a.client a.job 0) NothingTold (λ s. begun s 0 a.client a.job) a.place a.server.now ms e ms
-          (begin_refused size a.place n a.number a.client a.job (shown a.server.now (ms a.place)) 0 e look) refl;
+          refused (λ s. begin_why size a.place n a.id.server s a.id.client a.id.job 0) NothingTold (λ s. begun s 0 a.id.client a.id.job) a.place a.server.now ms e ms
+          (begin_refused size a.place n a.id.server a.id.client a.id.job (shown a.server.now (ms a.place)) 0 e look) refl;
     })
 
 pub returns-in_err-open : goal.returns-in_err-open
@@ -43,9 +43,9 @@ returns-in_err-open g c =
       slot = slot;
       free = λ h. look.1;
       settled =
-          refused (λ s. begin_why size a.place n a.number s a.client a.job slot) NothingTold (λ s. begun s slot a.client a.job) a.place a.server.now ms
+          refused (λ s. begin_why size a.place n a.id.server s a.id.client a.id.job slot) NothingTold (λ s. begun s slot a.id.client a.id.job) a.place a.server.now ms
           (passed_up c.in_err-open.field-0.0) (g.K.ReplicaBank.meanings c.open.new.self)
-          (begin_asked size a.place n a.number a.client a.job (shown a.server.now (ms a.place)) slot look.0 ∙ ap up told.0) told.1;
+          (begin_asked size a.place n a.id.server a.id.client a.id.job (shown a.server.now (ms a.place)) slot look.0 ∙ ap up told.0) told.1;
     })
 
 pub returns : goal.returns
@@ -59,13 +59,13 @@ returns g c =
     let told = c.in_ok-open.ensures in
     let m = opened (ms a.place) slot in
     let notes = c.new.result in
-    let W : List Statement → List ℕ → Site = λ xs ys. with_row (shown a.server.now m) slot (Some (record { client = a.client; job = a.job; stmts = xs; results = ys; committing = false })) in
+    let W : List Statement → List ℕ → Site = λ xs ys. with_row (shown a.server.now m) slot (Some (record { client = a.id.client; job = a.id.job; stmts = xs; results = ys; committing = false })) in
     record {
       slot = slot;
       free = λ h. look.1;
       settled =
-          obeyed (λ s. begin_why size a.place n a.number s a.client a.job slot) NothingTold (λ s. begun s slot a.client a.job) a.place a.server.now ms tt
+          obeyed (λ s. begin_why size a.place n a.id.server s a.id.client a.id.job slot) NothingTold (λ s. begun s slot a.id.client a.id.job) a.place a.server.now ms tt
           c.put.new.self m (g.K.ReplicaBank.meanings c.open.new.self)
-          (begin_asked size a.place n a.number a.client a.job (shown a.server.now (ms a.place)) slot look.0 ∙ ap up told.0) tt told.2
+          (begin_asked size a.place n a.id.server a.id.client a.id.job (shown a.server.now (ms a.place)) slot look.0 ∙ ap up told.0) tt told.2
           (c.put.ensures.row m ∙ ap (λ xs. W xs (results_of notes)) c.new.ensures.statements ∙ ap (W _) c.new.ensures.results);
     }

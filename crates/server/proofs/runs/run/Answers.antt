@@ -20,9 +20,9 @@ returns-in_err-looked g c =
     let ms = g.K.ReplicaBank.meanings a.bank.now in
     let e = c.in_err-looked.field-0.0 in
     let p = err_from_is_err_and c.from_residual.result c.from_residual.ensures.1 in
-    rw (p.1, p.2) (refused (λ s. run_why unit s a.client a.job a.cell a.operation) (λ s x. x ≡ run_result s a.client a.job a.cell a.operation)
-    (λ s. run_after unit s a.client a.job a.cell a.operation) a.place a.server.now ms e ms
-    (run_refused unit a.client a.job a.cell a.operation (shown a.server.now (ms a.place)) e (c.in_err-looked.ensures.looks (ms a.place))) refl)
+    rw (p.1, p.2) (refused (λ s. run_why unit s a.id.client a.id.job a.cell a.operation) (λ s x. x ≡ run_result s a.id.client a.id.job a.cell a.operation)
+    (λ s. run_after unit s a.id.client a.id.job a.cell a.operation) a.place a.server.now ms e ms
+    (run_refused unit a.id.client a.id.job a.cell a.operation (shown a.server.now (ms a.place)) e (c.in_err-looked.ensures.looks (ms a.place))) refl)
 
 pub returns-in_err-result : goal.returns-in_err-result
 returns-in_err-result g c =
@@ -34,9 +34,9 @@ returns-in_err-result g c =
     let look = c.in_ok-looked.ensures.looks (ms a.place) in
     let told = c.in_err-result.ensures in
     let p = err_from_is_err_and c.from_residual-in_err-result.result c.from_residual-in_err-result.ensures.1 in
-    rw (p.1, p.2) (refused (λ s. run_why unit s a.client a.job a.cell a.operation) (λ s x. x ≡ run_result s a.client a.job a.cell a.operation)
-    (λ s. run_after unit s a.client a.job a.cell a.operation) a.place a.server.now ms (passed_up c.in_err-result.field-0.0) (g.K.ReplicaBank.meanings c.run.new.self)
-    (run_asked unit a.client a.job a.cell a.operation (shown a.server.now (ms a.place)) st t.slot (work_of t.row) look.1.0 look.1.1.0 look.0 ∙ ap up told.0) told.1)
+    rw (p.1, p.2) (refused (λ s. run_why unit s a.id.client a.id.job a.cell a.operation) (λ s x. x ≡ run_result s a.id.client a.id.job a.cell a.operation)
+    (λ s. run_after unit s a.id.client a.id.job a.cell a.operation) a.place a.server.now ms (passed_up c.in_err-result.field-0.0) (g.K.ReplicaBank.meanings c.run.new.self)
+    (run_asked unit a.id.client a.id.job a.cell a.operation (shown a.server.now (ms a.place)) st t.slot (work_of t.row) look.1.0 look.1.1.0 look.0 ∙ ap up told.0) told.1)
 
 pub returns-in_default : goal.returns-in_default
 returns-in_default g c =
@@ -62,10 +62,10 @@ returns g c =
     let is : t.outcome ≡ Stays = cc look.1.1.1 in
     let R : Row = record { client = t.row.client; job = t.row.job; notes = notes; state = t.row.state } in
     let W : List Statement → List ℕ → Site = λ xs ys. with_row (shown a.server.now m) t.slot (Some (record { client = w.client; job = w.job; stmts = xs; results = ys; committing = w.committing })) in
-    obeyed (λ s. run_why unit s a.client a.job a.cell a.operation) (λ s x. x ≡ run_result s a.client a.job a.cell a.operation)
-    (λ s. run_after unit s a.client a.job a.cell a.operation) a.place a.server.now ms x c.settle.new.self m (g.K.ReplicaBank.meanings c.run.new.self)
-    (run_asked unit a.client a.job a.cell a.operation v st t.slot w look.1.0 look.1.1.0 look.0 ∙ ap up told.0)
-    (told.1 ∙ sym (run_gives unit a.client a.job a.cell a.operation v st t.slot w look.1.0 look.1.1.0)) told.2
+    obeyed (λ s. run_why unit s a.id.client a.id.job a.cell a.operation) (λ s x. x ≡ run_result s a.id.client a.id.job a.cell a.operation)
+    (λ s. run_after unit s a.id.client a.id.job a.cell a.operation) a.place a.server.now ms x c.settle.new.self m (g.K.ReplicaBank.meanings c.run.new.self)
+    (run_asked unit a.id.client a.id.job a.cell a.operation v st t.slot w look.1.0 look.1.1.0 look.0 ∙ ap up told.0)
+    (told.1 ∙ sym (run_gives unit a.id.client a.id.job a.cell a.operation v st t.slot w look.1.0 look.1.1.0)) told.2
     (c.settle.ensures m ∙ ap (λ o. with_row (shown a.server.now m) t.slot (row_after o R)) is
     ∙ ap (λ xs. W xs (results_of notes)) more.1 ∙ ap (W (w.stmts ++ st ∷ [])) more.2 ∙ ap (λ y. W (w.stmts ++ st ∷ []) (w.results ++ y ∷ [])) told.1
-    ∙ sym (run_leaves unit a.client a.job a.cell a.operation v st t.slot w look.1.0 look.1.1.0))
+    ∙ sym (run_leaves unit a.id.client a.id.job a.cell a.operation v st t.slot w look.1.0 look.1.1.0))

@@ -11,4 +11,4 @@ pub returns : goal.returns
 returns c = λ m.
     let t = c.in_ok-transaction.transaction in
     let look = c.in_ok-transaction.ensures.looks m in
-    (look.0, sym (commit_sends c.args.client c.args.job (shown c.args.self.now m) t.slot (work_of t.row) look.1.0 c.args.number))
+    (look.0, sym (commit_sends c.args.id.client c.args.id.job (shown c.args.self.now m) t.slot (work_of t.row) look.1.0 c.args.id.server))

@@ -40,7 +40,7 @@ returns c =
     record {
       low = c.in-Some.ensures.low;
       looks = λ m. (
-        not_refused (shown a.self.now m) a.client a.job found.0 (work_of found.1) a.cell a.operation c.if-not-self.false c.if-client-gt-LAST_CLIENT.false made.0 here on.0 few,
+        not_refused (shown a.self.now m) a.id.client a.id.job found.0 (work_of found.1) a.cell a.operation c.if-not-self.false c.if-id-gt-LAST_CLIENT.false made.0 here on.0 few,
         (checked_is c.in-Ok.statement a.cell a.operation made.1 made.2, (here, on.1), few),
       );
     }

@@ -9,7 +9,7 @@ use Rattle.server.proofs.Arriving.{goes_on, turned_down}
 use Rattle.server.proofs.servers.Server.send_off.Goals as goal
 
 pub returns-in_default : goal.returns-in_default
-returns-in_default c = λ m. sym (commit_leaves_all c.args.client c.args.job (shown c.args.self.now m) (sym c.in_default.ensures.value))
+returns-in_default c = λ m. sym (commit_leaves_all c.args.id.client c.args.id.job (shown c.args.self.now m) (sym c.in_default.ensures.value))
 
 pub returns-in_default-arrive : goal.returns-in_default-arrive
 returns-in_default-arrive c = λ m.
@@ -21,9 +21,9 @@ returns-in_default-arrive c = λ m.
     let W : Bool → Work = λ b. record { client = w.client; job = w.job; stmts = w.stmts; results = w.results; committing = b } in
     let V : Work → Site = λ x. with_row (shown v m) found.0 (Some x) in
     let F : (ℕ → Option Work) → Site = λ f. record { running = v.running; epoch = v.epoch; delivered = v.delivered; bar = v.bar; rows = f; db = m } in
-    let row = seek_row (rows_of v.rows) c.args.client c.args.job 8 found.0 w here in
+    let row = seek_row (rows_of v.rows) c.args.id.client c.args.id.job 8 found.0 w here in
     ap F (sym (upd_self (rows_of v.rows) found.0)) ∙ ap (λ (o : Option Work). with_row (shown v m) found.0 o) row ∙ ap (λ b. V (W b)) committing
-    ∙ sym (commit_leaves c.args.client c.args.job (shown v m) found.0 w here)
+    ∙ sym (commit_leaves c.args.id.client c.args.id.job (shown v m) found.0 w here)
 
 pub returns : goal.returns
 returns c = λ m.
@@ -34,4 +34,4 @@ returns c = λ m.
     let on = goes_on found.1.state Commit x refl c.in-Ok.ensures in
     let is : x ≡ Commits = cc on.1 in
     c.settle.ensures m ∙ ap (λ o. with_row (shown v m) found.0 (row_after o found.1)) is
-    ∙ sym (commit_leaves c.args.client c.args.job (shown v m) found.0 (work_of found.1) here)
+    ∙ sym (commit_leaves c.args.id.client c.args.id.job (shown v m) found.0 (work_of found.1) here)
