@@ -1,5 +1,6 @@
 -- Tables read as functions of the slot: a write is an update, and a search goes slot by slot.
-use Rattle.std.proofs.Common.{◌≡◌, ℕ, zero, suc, ◌+◌, ◌<◌, Bool, true, false, cond, List, length, get_or, set, replicate, Some, None, Option, sym, refl, ap, ◌∙◌, add-one, arith}
+use Rattle.std.proofs.Common.{◌≡◌, ℕ, zero, suc, ◌+◌, ◌<◌, Bool, true, false, cond, List, length, get_or, set, replicate, Some, None, Option, sym, refl, ap, ◌∙◌, add-one, arith, ◌==◌, ◌&&◌}
+use Rattle.std.specs.Bool.{then_some}
 use mathlib.Core.Path.{fun_ext}
 use native.Mathlib.Decide.{ℕ_discrete}
 use Rattle.std.proofs.lemmas.List.{get_or-set_same, get_or-set_other, get_or_default}
@@ -9,7 +10,7 @@ use Rattle.replica.proofs.Indices.{all_same}
 use Rattle.pronto.specs.Servers.{Work}
 use Rattle.pronto.specs.Refusing.{seek, or_below, names}
 use Rattle.server.specs.declared.rows.Row.{Row}
-use Rattle.server.specs.Shown.{rows_of, seen_row}
+use Rattle.server.specs.Shown.{rows_of, seen_row, work_of}
 
 pub upd_self : {X : Type 0} (f : ℕ → X) (i : ℕ) → upd f i (f i) ≡ f
 upd_self f i = fun_ext (λ j. elim (ℕ_discrete j i) [ yes e ↦ ap (upd f i (f i)) e ∙ upd_same f i (f i) ∙ ap f (sym e) | no n ↦ upd_other f i (f i) j n ])
@@ -23,6 +24,28 @@ rows_set xs s x lt =
 
 pub row_at : (xs : List (Option Row)) (i : ℕ) (d : Option Row) → i < length xs → rows_of xs i ≡ seen_row (get_or xs i d)
 row_at xs i d lt = ap seen_row (get_or_default xs i None d lt)
+
+-- the row, where it is the transaction of this client's job
+abbrev pub named : ℕ → ℕ → Option Row → Option Row
+named c k None = None
+named c k (Some r) = then_some (r.client == c && r.job == k) r
+
+module _ (c k p : ℕ) (below : Option (ℕ × Work)) where
+  pub found_there : (x : Option Row) (r : Row) → named c k x ≡ Some r → or_below c k (seen_row x) p below ≡ Some (p, work_of r)
+  found_there None r e = cc
+  found_there (Some x) r e = by (names c k (work_of x)) e
+    where
+      by : (b : Bool) → then_some b x ≡ Some r → cond b (Some (p, work_of x)) below ≡ Some (p, work_of r)
+      by true h = cc
+      by false h = cc
+
+  pub not_there : (x : Option Row) → named c k x ≡ None → or_below c k (seen_row x) p below ≡ below
+  not_there None e = refl
+  not_there (Some x) e = by (names c k (work_of x)) e
+    where
+      by : (b : Bool) → then_some b x ≡ None → cond b (Some (p, work_of x)) below ≡ below
+      by true h = cc
+      by false h = refl
 
 pub rows_none : rows_of (replicate 8 None) ≡ (λ _. None)
 rows_none = fun_ext (λ p. ap seen_row (all_same 8 None p))

@@ -21,8 +21,7 @@ pub fn deliver<B: Broadcast, K: DatabaseBank>(
     ensures { Delivers K.ReplicaBank.size (B.Broadcast.log broadcast.now) number result place server.old (K.ReplicaBank.meanings bank.old) server.new (K.ReplicaBank.meanings bank.new) }
 {
     let position = server.delivered();
-    let looked = server.look_deliver(broadcast)?;
-    let (message, judgement) = looked;
+    let (message, judgement) = server.look_deliver(broadcast)?;
     handle(server, bank, place, number, message, judgement)?;
     Ok((position, judgement))
 }

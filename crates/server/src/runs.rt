@@ -22,12 +22,13 @@ pub fn run<K: DatabaseBank>(
 ) -> Result<u64, ServerFault>
     ensures { Runs K.DatabaseBank.units id.client id.job cell operation result place server.old (K.ReplicaBank.meanings bank.old) server.new (K.ReplicaBank.meanings bank.new) }
 {
-    let looked = server.look_run(id, cell, operation)?;
-    let (statement, transaction) = looked;
+    let (statement, transaction) = server.look_run(id, cell, operation)?;
     let result = bank.run(place, transaction.slot, &statement)?;
-    let Some(notes) = transaction.row.notes.with(statement, result) else {
-        return Err(ServerFault::Long);
-    };
+    let notes = transaction
+        .row
+        .notes
+        .with(statement, result)
+        .ok_or(ServerFault::Long)?;
     server.settle(
         transaction.slot,
         Row {

@@ -1,5 +1,5 @@
 //! A server: what it knows of itself, and its open transactions.
-ghost use Rattle.std.specs.Prelude.{◌≡◌, ◌+◌, ◌≤◌, length};
+ghost use Rattle.std.specs.Prelude.{◌+◌, ◌≤◌};
 
 use crate::rows::Row;
 use replica::SLOTS;
@@ -20,7 +20,6 @@ pub struct Server {
     delivered: u64,
     bar: Option<u64>,
     rows: [Option<Row>; SLOTS],
-    ghost room: { length rows ≡ 8 },
     ghost early: { delivered ≤ 4096 },
     ghost first: { 1 ≤ epoch },
     ghost young: { epoch ≤ delivered + 1 },

@@ -12,13 +12,11 @@ impl ServerCount {
     pub fn new(count: u64) -> Option<ServerCount>
         ensures { Counted result count }
     {
-        if count == 0 {
-            return None;
+        if (1..=MOST).contains(&count) {
+            Some(ServerCount { count: count as u8 })
+        } else {
+            None
         }
-        if count > MOST {
-            return None;
-        }
-        Some(ServerCount { count: count as u8 })
     }
 
     /// The number.

@@ -12,15 +12,7 @@ use replica::SLOTS;
 pub(crate) fn lift(position: u64, bar: Option<u64>) -> Option<u64>
     ensures { result ≡ lifted position bar }
 {
-    match bar {
-        None => None,
-        Some(b) => {
-            if b <= position {
-                return None;
-            }
-            Some(b)
-        }
-    }
+    bar.filter(|b| *b > position)
 }
 
 impl Server {

@@ -36,22 +36,16 @@ impl Server {
         if id.client > LAST_CLIENT {
             return Err(ServerFault::NoClient);
         }
-        let Some(leader) = primary(u64::from(count.get()), self.epoch) else {
-            return Err(ServerFault::NotPrimary);
-        };
-        if u64::from(id.server) != leader {
+        if primary(u64::from(count.get()), self.epoch) != Some(u64::from(id.server)) {
             return Err(ServerFault::NotPrimary);
         }
         if self.bar.is_some() {
             return Err(ServerFault::Barred);
         }
-        let None = self.find(id.client, id.job) else {
+        if self.find(id.client, id.job).is_some() {
             return Err(ServerFault::AlreadyOpen);
-        };
-        let Some(slot) = self.free_slot() else {
-            return Err(ServerFault::Crowded);
-        };
-        Ok(slot)
+        }
+        self.free_slot().ok_or(ServerFault::Crowded)
     }
 
     /// The statement that a run runs, and the transaction that runs it.
@@ -70,13 +64,10 @@ impl Server {
         if id.client > LAST_CLIENT {
             return Err(ServerFault::NoClient);
         }
-        let Ok(statement) = Statement::new(cell, operation) else {
-            return Err(ServerFault::NoCell);
-        };
-        let Some(found) = self.find(id.client, id.job) else {
-            return Err(ServerFault::NoTransaction);
-        };
-        let (slot, row) = found;
+        let statement = Statement::new(cell, operation).map_err(|_| ServerFault::NoCell)?;
+        let (slot, row) = self
+            .find(id.client, id.job)
+            .ok_or(ServerFault::NoTransaction)?;
         let outcome = arrive(row.state, Arrival::Run)?;
         if row.notes.len() >= STATEMENTS {
             return Err(ServerFault::Long);
@@ -96,10 +87,9 @@ impl Server {
         if id.client > LAST_CLIENT {
             return Err(ServerFault::NoClient);
         }
-        let Some(found) = self.find(id.client, id.job) else {
-            return Err(ServerFault::NoTransaction);
-        };
-        let (slot, row) = found;
+        let (slot, row) = self
+            .find(id.client, id.job)
+            .ok_or(ServerFault::NoTransaction)?;
         let outcome = arrive(row.state, arrival)?;
         Ok(Open { slot, row, outcome })
     }
@@ -114,12 +104,10 @@ impl Server {
         if !self.running {
             return Err(ServerFault::Stopped);
         }
-        let Ok(message) = broadcast.message_at(self.delivered) else {
-            return Err(ServerFault::AllDelivered);
-        };
-        let Ok(judgement) = judge(broadcast, self.delivered) else {
-            return Err(ServerFault::AllDelivered);
-        };
+        let message = broadcast
+            .message_at(self.delivered)
+            .map_err(|_| ServerFault::AllDelivered)?;
+        let judgement = judge(broadcast, self.delivered).map_err(|_| ServerFault::AllDelivered)?;
         Ok((message, judgement))
     }
 
@@ -148,20 +136,12 @@ impl Server {
         ensures value { result ≡ own_at (rows_of self.now.rows) self.now.epoch number transaction.now.sender transaction.now.epoch transaction.now.client transaction.now.job }
         ensures low { LowSlot result }
     {
-        if transaction.sender != number {
+        if transaction.sender != number || transaction.epoch != self.epoch {
             return None;
         }
-        if transaction.epoch != self.epoch {
-            return None;
-        }
-        let Some(found) = self.find(transaction.client, transaction.job) else {
-            return None;
-        };
-        let Ok(outcome) = arrive(found.1.state, Arrival::Delivered) else {
-            return None;
-        };
-        match outcome {
-            Outcome::Ends => Some(found.0),
+        let (slot, row) = self.find(transaction.client, transaction.job)?;
+        match arrive(row.state, Arrival::Delivered).ok()? {
+            Outcome::Ends => Some(slot),
             Outcome::Stays | Outcome::Commits => None,
         }
     }

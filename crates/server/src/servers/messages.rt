@@ -33,10 +33,9 @@ impl Server {
     pub fn send_off(&mut self, id: TransactionId)
         ensures { (m : Meaning) → shown self.new m ≡ commit_after (shown self.old m) id.client id.job }
     {
-        let Some(found) = self.find(id.client, id.job) else {
+        let Some((slot, row)) = self.find(id.client, id.job) else {
             return;
         };
-        let (slot, row) = found;
         let Ok(outcome) = arrive(row.state, Arrival::Commit) else {
             return;
         };

@@ -50,9 +50,6 @@ impl Server {
     pub fn transaction_state(&self, id: TransactionId) -> Option<State>
         ensures { (m : Meaning) → state_told result ≡ state_found (find (shown self.now m) id.client id.job) }
     {
-        let Some(found) = self.find(id.client, id.job) else {
-            return None;
-        };
-        Some(found.1.state)
+        self.find(id.client, id.job).map(|(_, row)| row.state)
     }
 }

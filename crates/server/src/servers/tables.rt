@@ -9,20 +9,13 @@ ghost use Rattle.server.specs.Looking.{found_of, Low, Free};
 use super::Server;
 use crate::rows::Row;
 use crate::states::{Outcome, State};
-use replica::SLOTS;
 
 impl Server {
     /// A slot that has no transaction.
     pub(crate) fn free_slot(&self) -> Option<usize>
         ensures { Free (rows_of self.now.rows) result }
     {
-        for slot in 0..SLOTS {
-            let entry = &self.rows[slot];
-            let Some(_) = entry else {
-                return Some(slot);
-            };
-        }
-        None
+        self.rows.iter().position(|entry| entry.is_none())
     }
 
     /// The transaction of a client's job, with its slot.
@@ -31,15 +24,9 @@ impl Server {
         ensures low { Low result }
     {
         let mut found = None;
-        for slot in 0..SLOTS {
-            let entry = self.rows[slot];
-            match entry {
-                Some(row) => {
-                    if row.names(client, job) {
-                        found = Some((slot, row));
-                    }
-                }
-                None => {}
+        for (slot, entry) in self.rows.iter().enumerate() {
+            if let Some(row) = entry.filter(|row| row.names(client, job)) {
+                found = Some((slot, row));
             }
         }
         found
