@@ -19,6 +19,7 @@ use Rattle.server.specs.declared.states.State.TheVariants.{Executing}
 use Rattle.server.specs.declared.states.Arrival.{Arrival}
 use Rattle.server.specs.declared.states.Arrival.TheVariants.{Run}
 use Rattle.server.specs.declared.rows.Row.{Row}
+use Rattle.server.specs.declared.rows.Slot.{Slot}
 use Rattle.server.specs.declared.rows.Open.{Open}
 use Rattle.server.specs.Outcomes.{outcome_of, is_committing}
 use Rattle.server.specs.Shown.{work_of}
@@ -33,32 +34,27 @@ abbrev pub Nothing : Unit {0} → Type 0
 Nothing u = Unit {0}
 
 -- The transaction that was found, with its slot.
-abbrev pub found_of : Option (ℕ × Row) → Option (ℕ × Work)
+abbrev pub found_of : Option (Slot × Row) → Option (ℕ × Work)
 found_of None = None
-found_of (Some x) = Some (x.0, work_of x.1)
+found_of (Some x) = Some (x.0.index, work_of x.1)
 
--- What was found stands in one of the eight slots.
-abbrev pub Low : Option (ℕ × Row) → Type 0
-Low None = Unit {0}
-Low (Some x) = x.0 < 8
-
--- The slot is one of the eight.
-abbrev pub LowSlot : Option ℕ → Type 0
-LowSlot None = Unit {0}
-LowSlot (Some p) = p < 8
+-- The number of a slot, where there is one.
+abbrev pub slot_of : Option Slot → Option ℕ
+slot_of None = None
+slot_of (Some s) = Some s.index
 
 -- A row that has no transaction, where there is one.
-abbrev pub Free : (ℕ → Option Work) → Option ℕ → Type 0
-Free rows (Some p) = (p < 8) × (rows p ≡ None)
+abbrev pub Free : (ℕ → Option Work) → Option Slot → Type 0
+Free rows (Some s) = rows s.index ≡ None
 Free rows None = any_below 8 (λ p. not (is_some (rows p))) ≡ false
 
--- The row is one of the eight and has no transaction.
-abbrev pub FreeIn : Site → ℕ → Type 0
-FreeIn v p = Free v.rows (Some p)
+-- The slot's row has no transaction.
+abbrev pub FreeIn : Site → Slot → Type 0
+FreeIn v s = Free v.rows (Some s)
 
 -- The transaction that was found executes, and this is what becomes of it.
 abbrev pub Found : Arrival → Option (ℕ × Work) → Open → Type 0
-Found a found x = (found ≡ Some (x.slot, work_of x.row)) × (outcome_of Executing a ≡ Ok x.outcome)
+Found a found x = (found ≡ Some (x.slot.index, work_of x.row)) × (outcome_of Executing a ≡ Ok x.outcome)
 
 -- The numbers make a statement, and the transaction that was found has room for it.
 abbrev pub Runnable : ℕ → Operation → Option (ℕ × Work) → Statement × Open → Type 0

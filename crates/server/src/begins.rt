@@ -23,7 +23,7 @@ pub fn begin<K: DatabaseBank>(
     ensures { Begins K.ReplicaBank.size count.count id.server id.client id.job result place server.old (K.ReplicaBank.meanings bank.old) server.new (K.ReplicaBank.meanings bank.new) }
 {
     let slot = server.look_begin(count, id)?;
-    bank.open(place, slot)?;
+    bank.open(place, slot.index)?;
     server.put(
         slot,
         Some(Row {

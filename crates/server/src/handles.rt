@@ -25,7 +25,7 @@ fn commit<K: DatabaseBank>(
     let position = server.delivered();
     match server.own(number, message) {
         Some(slot) => {
-            bank.seal(place, slot, position)?;
+            bank.seal(place, slot.index, position)?;
             server.close(slot);
             Ok(())
         }
@@ -54,7 +54,7 @@ fn repeat<K: DatabaseBank>(
 {
     match server.own(number, message) {
         Some(slot) => {
-            bank.undo(place, slot)?;
+            bank.undo(place, slot.index)?;
             server.close(slot);
             Ok(())
         }

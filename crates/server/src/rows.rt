@@ -1,8 +1,16 @@
 //! The open transactions of a server.
-ghost use Rattle.std.specs.Prelude.{◌≡◌, ◌&&◌, ◌==◌};
+ghost use Rattle.std.specs.Prelude.{◌≡◌, ◌<◌, ◌&&◌, ◌==◌};
+ghost use Rattle.server.specs.Shown.{seen_row, row_after};
 
 use crate::states::{Outcome, State};
 use message::Notes;
+
+/// One of the eight slots of a server's database.
+#[derive(Clone, Copy)]
+pub struct Slot {
+    pub index: usize,
+    ghost low: { index < 8 },
+}
 
 /// An open transaction: a client's job, with what it ran.
 #[derive(Clone, Copy)]
@@ -16,7 +24,7 @@ pub struct Row {
 /// A transaction that an act may go on with: its slot, and what becomes of it.
 #[derive(Clone, Copy)]
 pub struct Open {
-    pub slot: usize,
+    pub slot: Slot,
     pub row: Row,
     pub outcome: Outcome,
 }
@@ -27,5 +35,21 @@ impl Row {
         ensures { result ≡ (self.now.client == client && self.now.job == job) }
     {
         self.client == client && self.job == job
+    }
+}
+
+impl Open {
+    /// What its slot holds once that has become of it.
+    pub fn left(self) -> Option<Row>
+        ensures { seen_row result ≡ row_after self.outcome self.row }
+    {
+        match self.outcome {
+            Outcome::Stays => Some(self.row),
+            Outcome::Commits => Some(Row {
+                state: State::Committing,
+                ..self.row
+            }),
+            Outcome::Ends => None,
+        }
     }
 }

@@ -1,7 +1,7 @@
 //! Run and abort at one server with its database.
 ghost use Rattle.server.specs.Acting.{Runs, Aborts};
 
-use crate::rows::Row;
+use crate::rows::{Open, Row};
 use crate::servers::Server;
 use crate::states::Arrival;
 use bank::DatabaseBank;
@@ -23,20 +23,19 @@ pub fn run<K: DatabaseBank>(
     ensures { Runs K.DatabaseBank.units id.client id.job cell operation result place server.old (K.ReplicaBank.meanings bank.old) server.new (K.ReplicaBank.meanings bank.new) }
 {
     let (statement, transaction) = server.look_run(id, cell, operation)?;
-    let result = bank.run(place, transaction.slot, &statement)?;
+    let result = bank.run(place, transaction.slot.index, &statement)?;
     let notes = transaction
         .row
         .notes
         .with(statement, result)
         .ok_or(ServerFault::Long)?;
-    server.settle(
-        transaction.slot,
-        Row {
+    server.settle(Open {
+        row: Row {
             notes,
             ..transaction.row
         },
-        transaction.outcome,
-    );
+        ..transaction
+    });
     Ok(result)
 }
 
@@ -52,7 +51,7 @@ pub fn abort<K: DatabaseBank>(
     ensures { Aborts id.client id.job result place server.old (K.ReplicaBank.meanings bank.old) server.new (K.ReplicaBank.meanings bank.new) }
 {
     let transaction = server.look_open(id, Arrival::Abort)?;
-    bank.undo(place, transaction.slot)?;
-    server.settle(transaction.slot, transaction.row, transaction.outcome);
+    bank.undo(place, transaction.slot.index)?;
+    server.settle(transaction);
     Ok(())
 }

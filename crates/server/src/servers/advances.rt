@@ -6,6 +6,7 @@ ghost use Rattle.pronto.specs.Servers.{with_row, past, lifted, risen};
 ghost use Rattle.server.specs.Shown.{shown};
 
 use super::Server;
+use crate::rows::Slot;
 use replica::SLOTS;
 
 /// The bar after an epoch message that is accepted at a position: lifted, unless the position is below it.
@@ -25,9 +26,9 @@ impl Server {
     }
 
     /// One message further, which ended the transaction in a slot.
-    pub(crate) fn close(&mut self, slot: usize)
-        requires { (slot < 8) × (self.old.delivered < 4096) }
-        ensures { (m : Meaning) → shown self.new m ≡ past (with_row (shown self.old m) slot None) }
+    pub(crate) fn close(&mut self, slot: Slot)
+        requires { self.old.delivered < 4096 }
+        ensures { (m : Meaning) → shown self.new m ≡ past (with_row (shown self.old m) slot.index None) }
     {
         self.put(slot, None);
         self.pass();

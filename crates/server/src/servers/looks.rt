@@ -1,15 +1,15 @@
 //! What turns an act down before the database is asked: for each act its table's tests, in the table's order.
-ghost use Rattle.std.specs.Prelude.{◌≡◌, ◌<◌, true, IfOk};
+ghost use Rattle.std.specs.Prelude.{◌≡◌, true};
 ghost use Rattle.replica.specs.Meanings.{Meaning};
 ghost use Rattle.pronto.specs.Refusing.{first, begin_table, run_table, open_table, running_table, start_table, find};
 ghost use Rattle.pronto.specs.Delivering.{deliver_table, own_at};
 ghost use Rattle.server.specs.Shown.{rows_of, shown};
 ghost use Rattle.server.specs.Outcomes.{asks};
-ghost use Rattle.server.specs.Looking.{Looks, LowSlot, FreeIn, Found, Runnable, Next, Nothing};
+ghost use Rattle.server.specs.Looking.{Looks, slot_of, FreeIn, Found, Runnable, Next, Nothing};
 
 use super::Server;
 use crate::counts::ServerCount;
-use crate::rows::Open;
+use crate::rows::{Open, Slot};
 use crate::states::{Arrival, Outcome, arrive};
 use broadcast::Broadcast;
 use journal::{Judgement, judge, primary};
@@ -26,9 +26,8 @@ impl Server {
         &self,
         count: ServerCount,
         id: TransactionId,
-    ) -> Result<usize, ServerFault>
-        ensures low { IfOk result (λ p. p < 8) }
-        ensures looks { (m : Meaning) → Looks result (first (begin_table count.count id.server (shown self.now m) id.client id.job)) (FreeIn (shown self.now m)) }
+    ) -> Result<Slot, ServerFault>
+        ensures { (m : Meaning) → Looks result (first (begin_table count.count id.server (shown self.now m) id.client id.job)) (FreeIn (shown self.now m)) }
     {
         if !self.running {
             return Err(ServerFault::Stopped);
@@ -55,8 +54,7 @@ impl Server {
         cell: u64,
         operation: Operation,
     ) -> Result<(Statement, Open), ServerFault>
-        ensures low { IfOk result (λ x. x.1.slot < 8) }
-        ensures looks { (m : Meaning) → Looks result (first (run_table (shown self.now m) id.client id.job cell operation)) (Runnable cell operation (find (shown self.now m) id.client id.job)) }
+        ensures { (m : Meaning) → Looks result (first (run_table (shown self.now m) id.client id.job cell operation)) (Runnable cell operation (find (shown self.now m) id.client id.job)) }
     {
         if !self.running {
             return Err(ServerFault::Stopped);
@@ -78,8 +76,7 @@ impl Server {
     /// The transaction that is committed or aborted.
     pub(crate) fn look_open(&self, id: TransactionId, arrival: Arrival) -> Result<Open, ServerFault>
         requires { asks arrival ≡ true }
-        ensures low { IfOk result (λ x. x.slot < 8) }
-        ensures looks { (m : Meaning) → Looks result (first (open_table (shown self.now m) id.client id.job)) (Found arrival (find (shown self.now m) id.client id.job)) }
+        ensures { (m : Meaning) → Looks result (first (open_table (shown self.now m) id.client id.job)) (Found arrival (find (shown self.now m) id.client id.job)) }
     {
         if !self.running {
             return Err(ServerFault::Stopped);
@@ -132,9 +129,8 @@ impl Server {
     }
 
     /// The slot of the committing transaction that a message is of, where this server, by its number, sent it in its epoch.
-    pub(crate) fn own(&self, number: u8, transaction: &Transaction) -> Option<usize>
-        ensures value { result ≡ own_at (rows_of self.now.rows) self.now.epoch number transaction.now.sender transaction.now.epoch transaction.now.client transaction.now.job }
-        ensures low { LowSlot result }
+    pub(crate) fn own(&self, number: u8, transaction: &Transaction) -> Option<Slot>
+        ensures { slot_of result ≡ own_at (rows_of self.now.rows) self.now.epoch number transaction.now.sender transaction.now.epoch transaction.now.client transaction.now.job }
     {
         if transaction.sender != number || transaction.epoch != self.epoch {
             return None;

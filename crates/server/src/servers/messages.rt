@@ -8,6 +8,7 @@ ghost use Rattle.server.specs.Shown.{shown};
 ghost use Rattle.server.specs.Looking.{Looks};
 
 use super::Server;
+use crate::rows::Open;
 use crate::states::{Arrival, arrive};
 use message::{EpochChange, Transaction};
 use pronto::{ServerFault, TransactionId};
@@ -39,7 +40,7 @@ impl Server {
         let Ok(outcome) = arrive(row.state, Arrival::Commit) else {
             return;
         };
-        self.settle(slot, row, outcome);
+        self.settle(Open { slot, row, outcome });
     }
 
     /// The message that a suspect offers, at the server of this number.

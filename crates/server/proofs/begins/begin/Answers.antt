@@ -18,7 +18,7 @@ returns-in_err-slot g c =
     let n = a.count.count in
     let size = g.K.ReplicaBank.size in
     let ms = g.K.ReplicaBank.meanings a.bank.now in
-    let look = c.in_err-slot.ensures.looks (ms a.place) in
+    let look = c.in_err-slot.ensures (ms a.place) in
     let e = c.in_err-slot.field-0.0 in
     let p = err_from_is_err_and c.from_residual.result c.from_residual.ensures.1 in
     rw (p.1, p.2) (record {
@@ -35,13 +35,13 @@ returns-in_err-open g c =
     let n = a.count.count in
     let size = g.K.ReplicaBank.size in
     let ms = g.K.ReplicaBank.meanings a.bank.now in
-    let slot = c.in_ok-slot.slot in
-    let look = c.in_ok-slot.ensures.looks (ms a.place) in
+    let slot = c.in_ok-slot.slot.index in
+    let look = c.in_ok-slot.ensures (ms a.place) in
     let told = c.in_err-open.ensures in
     let p = err_from_is_err_and c.from_residual-in_err-open.result c.from_residual-in_err-open.ensures.1 in
     rw (p.1, p.2) (record {
       slot = slot;
-      free = λ h. look.1;
+      free = λ h. (c.in_ok-slot.slot.low, look.1);
       settled =
           refused (λ s. begin_why size a.place n a.id.server s a.id.client a.id.job slot) NothingTold (λ s. begun s slot a.id.client a.id.job) a.place a.server.now ms
           (passed_up c.in_err-open.field-0.0) (g.K.ReplicaBank.meanings c.open.new.self)
@@ -54,15 +54,15 @@ returns g c =
     let n = a.count.count in
     let size = g.K.ReplicaBank.size in
     let ms = g.K.ReplicaBank.meanings a.bank.now in
-    let slot = c.in_ok-slot.slot in
-    let look = c.in_ok-slot.ensures.looks (ms a.place) in
+    let slot = c.in_ok-slot.slot.index in
+    let look = c.in_ok-slot.ensures (ms a.place) in
     let told = c.in_ok-open.ensures in
     let m = opened (ms a.place) slot in
     let notes = c.new.result in
     let W : List Statement → List ℕ → Site = λ xs ys. with_row (shown a.server.now m) slot (Some (record { client = a.id.client; job = a.id.job; stmts = xs; results = ys; committing = false })) in
     record {
       slot = slot;
-      free = λ h. look.1;
+      free = λ h. (c.in_ok-slot.slot.low, look.1);
       settled =
           obeyed (λ s. begin_why size a.place n a.id.server s a.id.client a.id.job slot) NothingTold (λ s. begun s slot a.id.client a.id.job) a.place a.server.now ms tt
           c.put.new.self m (g.K.ReplicaBank.meanings c.open.new.self)

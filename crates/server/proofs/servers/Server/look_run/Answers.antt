@@ -8,13 +8,13 @@ use Rattle.server.specs.Shown.{shown, work_of}
 use Rattle.server.proofs.Arriving.{goes_on}
 use Rattle.server.proofs.servers.Server.look_run.Goals as goal
 
-pub returns-clause-looks : goal.returns-clause-looks
-returns-clause-looks c = λ m.
+pub returns : goal.returns
+returns c = λ m.
     let a = c.args in
     let st = c.in_ok-statement.statement in
     let w = work_of c.in_ok-slot.row in
     let made : (missing a.cell a.operation ≡ None) × (st.cell ≡ a.cell) × (st.operation ≡ a.operation) = search rules in
-    let here : find (shown a.self.now m) a.id.client a.id.job ≡ Some (c.in_ok-slot.slot, w) = search rules in
+    let here : find (shown a.self.now m) a.id.client a.id.job ≡ Some (c.in_ok-slot.slot.index, w) = search rules in
     let on = goes_on c.in_ok-slot.row.state Run c.in_ok-outcome.outcome refl c.in_ok-outcome.ensures in
     let few : length w.stmts < 6 = omega (arith, c.len.ensures) in
     rw (c.if-not-self.false, le-ltb 15 a.id.client c.if-id-gt-LAST_CLIENT.false, made.0, here, on.0, lt-leb 6 (length w.stmts) few)
