@@ -10,8 +10,9 @@ use Rattle.pronto.specs.Servers.{Site}
 use Rattle.pronto.specs.Refusing.{first, and_then}
 use Rattle.pronto.specs.Delivering.{handle_why, handled, deliver_table, deliver_why, deliver_after, Tells, verdict, if_next}
 use Rattle.server.specs.declared.servers.Server.{Server}
-use Rattle.server.specs.Shown.{shown}
-use Rattle.server.specs.Acting.{Handles, Delivers}
+use Rattle.server.specs.declared.servers.advances.Advance.{Advance}
+use Rattle.server.specs.Shown.{shown, advanced}
+use Rattle.server.specs.Acting.{Meets, Delivers}
 use Rattle.server.proofs.Settling.{refused}
 
 module _ (databases : ℕ) (log : List Msg) (number i : ℕ) (v : Server) (ms : ℕ → Meaning) where
@@ -40,8 +41,11 @@ module _ (databases : ℕ) (log : List Msg) (number i : ℕ) (v : Server) (ms : 
     unfolding Tells
     tells p s = (s, ap (λ o. if_next o None (λ m. Some (verdict log S m))) here ∙ ap Some is)
 
-    pub deliver_fails : (e : ServerFault) (w : Server) (ns : ℕ → Meaning) → Handles databases number (judged_of x) m (Err e) i v ms w ns → Delivers databases log number (Err e) i v ms w ns
-    deliver_fails e w ns told = ((asked ∙ told.0.0, told.0.1), told.1)
+    pub deliver_fails : (e : ServerFault) (ns : ℕ → Meaning) → Meets databases number (judged_of x) m (Err e) i v ms ns → Delivers databases log number (Err e) i v ms v ns
+    deliver_fails e ns told = ((asked ∙ told.0.0, told.0.1), told.1)
 
-    pub deliver_done : (p : ℕ) (w : Server) (ns : ℕ → Meaning) → p ≡ v.delivered → Handles databases number (judged_of x) m (Ok tt) i v ms w ns → Delivers databases log number (Ok (p, x)) i v ms w ns
-    deliver_done p w ns s told = ((asked ∙ told.0.0, tells p s, told.0.2 ∙ sym leaves), told.1)
+    pub deliver_done : (p : ℕ) (a : Advance) (w : Server) (ns : ℕ → Meaning) → p ≡ v.delivered → Meets databases number (judged_of x) m (Ok a) i v ms ns
+        → ((n : Meaning) → shown w n ≡ advanced a (shown v n)) → Delivers databases log number (Ok (p, x)) i v ms w ns
+    deliver_done p a w ns s meets advances =
+        let told = meets w advances in
+        ((asked ∙ told.0.0, tells p s, told.0.2 ∙ sym leaves), told.1)

@@ -1,5 +1,5 @@
 -- The acts at one server with its database.
-use Rattle.std.specs.Prelude.{◌≡◌, ℕ, ◌<◌, List, None, Option, Result}
+use Rattle.std.specs.Prelude.{◌≡◌, ℕ, ◌<◌, List, None, Ok, Err, Option, Result}
 use Rattle.statement.specs.declared.operation.Operation.{Operation}
 use Rattle.replica.specs.Meanings.{Meaning, upd}
 use Rattle.message.specs.Messages.{Msg}
@@ -12,7 +12,8 @@ use Rattle.pronto.specs.Delivering.{handle_why, handled, deliver_why, deliver_af
 use Rattle.pronto.specs.States.{Did}
 use Rattle.pronto.specs.Acts.{NothingTold}
 use Rattle.server.specs.declared.servers.Server.{Server}
-use Rattle.server.specs.Shown.{shown}
+use Rattle.server.specs.declared.servers.advances.Advance.{Advance}
+use Rattle.server.specs.Shown.{shown, advanced}
 
 -- An act at the server and the database of place i: refused exactly where there is a refusal, and then nothing has changed; otherwise its
 -- answer is right, and `done` is what it leaves. No other database changes.
@@ -38,6 +39,11 @@ Aborts c k r i v ms w ns = Settled r (λ s. abort_why s c k) NothingTold (λ s. 
 -- A message, so judged, at server `number`.
 abbrev pub Handles : ℕ → ℕ → Judged → Msg → Result (Unit {0}) ServerFault → ℕ → Server → (ℕ → Meaning) → Server → (ℕ → Meaning) → Type 0
 Handles databases number j m r i v ms w ns = Settled r (handle_why databases i number j m) NothingTold (handled number j m) i v ms w ns
+
+-- The same, where the database has done its part: every server that advances as the answer says has handled the message.
+abbrev pub Meets : ℕ → ℕ → Judged → Msg → Result Advance ServerFault → ℕ → Server → (ℕ → Meaning) → (ℕ → Meaning) → Type 0
+Meets databases number j m (Ok a) i v ms ns = (w : Server) → ((n : Meaning) → shown w n ≡ advanced a (shown v n)) → Handles databases number j m (Ok tt) i v ms w ns
+Meets databases number j m (Err e) i v ms ns = Handles databases number j m (Err e) i v ms v ns
 
 -- deliver, of the next message of the log.
 abbrev pub Delivers : ℕ → List Msg → ℕ → Result (ℕ × Judgement) ServerFault → ℕ → Server → (ℕ → Meaning) → Server → (ℕ → Meaning) → Type 0

@@ -19,7 +19,7 @@ use Rattle.server.specs.declared.states.State.TheVariants.{Executing}
 use Rattle.server.specs.declared.states.Arrival.{Arrival}
 use Rattle.server.specs.declared.states.Arrival.TheVariants.{Run}
 use Rattle.server.specs.declared.rows.Row.{Row}
-use Rattle.server.specs.declared.rows.Slot.{Slot}
+use Rattle.server.specs.declared.slots.Slot.{Slot}
 use Rattle.server.specs.declared.rows.Open.{Open}
 use Rattle.server.specs.Outcomes.{outcome_of, is_committing}
 use Rattle.server.specs.Shown.{work_of}

@@ -2,11 +2,13 @@
 use Rattle.std.specs.Prelude.{ℕ, List, Some, None, Option, slice_index_or}
 use Rattle.replica.specs.Meanings.{Meaning}
 use Rattle.message.specs.Noted.{statements_of, results_of}
-use Rattle.pronto.specs.Servers.{Work, Site, committing_now}
+use Rattle.pronto.specs.Servers.{Work, Site, committing_now, with_row, with_db, past, risen}
 use Rattle.server.specs.declared.states.Outcome.{Outcome}
 use Rattle.server.specs.declared.states.Outcome.TheVariants.{Stays, Commits, Ends}
 use Rattle.server.specs.declared.rows.Row.{Row}
 use Rattle.server.specs.declared.servers.Server.{Server}
+use Rattle.server.specs.declared.servers.advances.Advance.{Advance}
+use Rattle.server.specs.declared.servers.advances.Advance.TheVariants.{Passes, Closes, Rises}
 use Rattle.server.specs.Outcomes.{is_committing}
 
 -- An open transaction.
@@ -31,3 +33,9 @@ abbrev pub row_after : Outcome → Row → Option Work
 row_after Stays r = Some (work_of r)
 row_after Commits r = Some (committing_now (work_of r))
 row_after Ends r = None
+
+-- One message further, where the database already has what the message leaves there.
+abbrev pub advanced : Advance → Site → Site
+advanced Passes v = past v
+advanced (Closes s) v = past (with_row v s.index None)
+advanced Rises v = with_db (risen v) v.db

@@ -22,6 +22,7 @@ pub fn deliver<B: Broadcast, K: DatabaseBank>(
 {
     let position = server.delivered();
     let (message, judgement) = server.look_deliver(broadcast)?;
-    handle(server, bank, place, number, message, judgement)?;
+    let advance = handle(server, bank, place, number, message, judgement)?;
+    server.advance(advance);
     Ok((position, judgement))
 }

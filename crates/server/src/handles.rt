@@ -1,11 +1,12 @@
-//! What a delivered message does to a server and its database.
-ghost use Rattle.std.specs.Prelude.{ℕ, ◌<◌};
+//! What a delivered message does to a server's database, and what to its server.
+ghost use Rattle.std.specs.Prelude.{ℕ};
 ghost use Rattle.message.specs.Messages.{msg_of, tx_of, transaction};
 ghost use Rattle.journal.specs.Judging.{committed, again};
 ghost use Rattle.journal.specs.Verdicts.{judged_of};
-ghost use Rattle.server.specs.Acting.{Handles};
+ghost use Rattle.server.specs.Acting.{Meets};
 
 use crate::servers::Server;
+use crate::servers::advances::Advance;
 use bank::{DatabaseBank, ReplicaBank};
 use journal::Judgement;
 use message::{Message, Transaction};
@@ -13,93 +14,77 @@ use pronto::ServerFault;
 
 /// A committed transaction: sealed where it is the server's own; otherwise taken in, unless its position is below the mark.
 fn commit<K: DatabaseBank>(
-    server: &mut Server,
+    server: &Server,
     bank: &mut K,
     place: u64,
     number: u8,
     message: &Transaction,
-) -> Result<(), ServerFault>
-    requires { server.old.delivered < 4096 }
-    ensures { Handles K.ReplicaBank.size number committed (transaction (tx_of message.now)) result place server.old (K.ReplicaBank.meanings bank.old) server.new (K.ReplicaBank.meanings bank.new) }
+) -> Result<Advance, ServerFault>
+    ensures { Meets K.ReplicaBank.size number committed (transaction (tx_of message.now)) result place server.now (K.ReplicaBank.meanings bank.old) (K.ReplicaBank.meanings bank.new) }
 {
     let position = server.delivered();
     match server.own(number, message) {
         Some(slot) => {
             bank.seal(place, slot.index, position)?;
-            server.close(slot);
-            Ok(())
+            Ok(Advance::Closes(slot))
         }
+        None if position < bank.mark(place) => Ok(Advance::Passes),
         None => {
-            if position < bank.mark(place) {
-                server.pass();
-                return Ok(());
-            }
             bank.intake(place, message.notes.statements(), position)?;
-            server.pass();
-            Ok(())
+            Ok(Advance::Passes)
         }
     }
 }
 
 /// A transaction whose job was committed before: undone where it is the server's own.
 fn repeat<K: DatabaseBank>(
-    server: &mut Server,
+    server: &Server,
     bank: &mut K,
     place: u64,
     number: u8,
     message: &Transaction,
-) -> Result<(), ServerFault>
-    requires { server.old.delivered < 4096 }
-    ensures { (q : ℕ) → Handles K.ReplicaBank.size number (again q) (transaction (tx_of message.now)) result place server.old (K.ReplicaBank.meanings bank.old) server.new (K.ReplicaBank.meanings bank.new) }
+) -> Result<Advance, ServerFault>
+    ensures { (q : ℕ) → Meets K.ReplicaBank.size number (again q) (transaction (tx_of message.now)) result place server.now (K.ReplicaBank.meanings bank.old) (K.ReplicaBank.meanings bank.new) }
 {
     match server.own(number, message) {
         Some(slot) => {
             bank.undo(place, slot.index)?;
-            server.close(slot);
-            Ok(())
+            Ok(Advance::Closes(slot))
         }
-        None => {
-            server.pass();
-            Ok(())
-        }
+        None => Ok(Advance::Passes),
     }
 }
 
 /// A message that is judged so.
 pub(crate) fn handle<K: DatabaseBank>(
-    server: &mut Server,
+    server: &Server,
     bank: &mut K,
     place: u64,
     number: u8,
     message: &Message,
     judgement: Judgement,
-) -> Result<(), ServerFault>
-    requires { server.old.delivered < 4096 }
-    ensures { Handles K.ReplicaBank.size number (judged_of judgement) (msg_of message.now) result place server.old (K.ReplicaBank.meanings bank.old) server.new (K.ReplicaBank.meanings bank.new) }
+) -> Result<Advance, ServerFault>
+    ensures { Meets K.ReplicaBank.size number (judged_of judgement) (msg_of message.now) result place server.now (K.ReplicaBank.meanings bank.old) (K.ReplicaBank.meanings bank.new) }
 {
-    match judgement {
-        Judgement::Accepted => {
+    match (judgement, message) {
+        (Judgement::Accepted, _) => {
             bank.lose(place);
-            server.rise();
-            Ok(())
+            Ok(Advance::Rises)
         }
-        Judgement::Stale | Judgement::Late => {
-            server.pass();
-            Ok(())
-        }
-        Judgement::Committed => match message {
-            Message::Epoch(_) => {
-                server.pass();
-                Ok(())
-            }
-            Message::Transaction(transaction) => commit(server, bank, place, number, transaction),
-        },
-        Judgement::Again(_) => match message {
-            Message::Epoch(_) => {
-                server.pass();
-                Ok(())
-            }
-            Message::Transaction(transaction) => repeat(server, bank, place, number, transaction),
-        },
+        (Judgement::Committed, Message::Transaction(transaction)) => commit(
+            server,
+            bank,
+            place,
+            number,
+            transaction,
+        ),
+        (Judgement::Again(_), Message::Transaction(transaction)) => repeat(
+            server,
+            bank,
+            place,
+            number,
+            transaction,
+        ),
+        _ => Ok(Advance::Passes),
     }
 }

@@ -8,6 +8,7 @@ mod handles;
 mod rows;
 pub mod runs;
 pub mod servers;
+mod slots;
 pub mod states;
 pub mod stops;
 

@@ -1,16 +1,10 @@
 //! The open transactions of a server.
-ghost use Rattle.std.specs.Prelude.{◌≡◌, ◌<◌, ◌&&◌, ◌==◌};
+ghost use Rattle.std.specs.Prelude.{◌≡◌, ◌&&◌, ◌==◌};
 ghost use Rattle.server.specs.Shown.{seen_row, row_after};
 
+use crate::slots::Slot;
 use crate::states::{Outcome, State};
 use message::Notes;
-
-/// One of the eight slots of a server's database.
-#[derive(Clone, Copy)]
-pub struct Slot {
-    pub index: usize,
-    ghost low: { index < 8 },
-}
 
 /// An open transaction: a client's job, with what it ran.
 #[derive(Clone, Copy)]

@@ -1,13 +1,23 @@
 //! How a delivered message changes a server, apart from its database.
-ghost use Rattle.std.specs.Prelude.{◌≡◌, ◌<◌, None};
+ghost use Rattle.std.specs.Prelude.{◌≡◌, ◌<◌};
 ghost use Rattle.replica.specs.Meanings.{Meaning};
-ghost use Rattle.replica.specs.Calls.{lost};
-ghost use Rattle.pronto.specs.Servers.{with_row, past, lifted, risen};
-ghost use Rattle.server.specs.Shown.{shown};
+ghost use Rattle.pronto.specs.Servers.{lifted};
+ghost use Rattle.server.specs.Shown.{shown, advanced};
 
 use super::Server;
-use crate::rows::Slot;
+use crate::slots::Slot;
 use replica::SLOTS;
+
+/// What a delivered message changes, besides that one message more is delivered.
+#[derive(Clone, Copy)]
+pub(crate) enum Advance {
+    /// Nothing.
+    Passes,
+    /// It ended the transaction in a slot.
+    Closes(Slot),
+    /// It began an epoch: no transaction is open, and the bar may be lifted.
+    Rises,
+}
 
 /// The bar after an epoch message that is accepted at a position: lifted, unless the position is below it.
 pub(crate) fn lift(position: u64, bar: Option<u64>) -> Option<u64>
@@ -18,30 +28,20 @@ pub(crate) fn lift(position: u64, bar: Option<u64>) -> Option<u64>
 
 impl Server {
     /// One message further.
-    pub(crate) fn pass(&mut self)
+    pub(crate) fn advance(&mut self, advance: Advance)
         requires { self.old.delivered < 4096 }
-        ensures { (m : Meaning) → shown self.new m ≡ past (shown self.old m) }
+        ensures { (m : Meaning) → shown self.new m ≡ advanced advance (shown self.old m) }
     {
-        self.delivered += 1;
-    }
-
-    /// One message further, which ended the transaction in a slot.
-    pub(crate) fn close(&mut self, slot: Slot)
-        requires { self.old.delivered < 4096 }
-        ensures { (m : Meaning) → shown self.new m ≡ past (with_row (shown self.old m) slot.index None) }
-    {
-        self.put(slot, None);
-        self.pass();
-    }
-
-    /// One message further, which began an epoch: no transaction is open, and the bar may be lifted.
-    pub(crate) fn rise(&mut self)
-        requires { self.old.delivered < 4096 }
-        ensures { (m : Meaning) → shown self.new (lost m) ≡ risen (shown self.old m) }
-    {
-        self.bar = lift(self.delivered, self.bar);
-        self.rows = [None; SLOTS];
-        self.delivered += 1;
-        self.epoch += 1;
+        let position = self.delivered;
+        self.delivered = position + 1;
+        match advance {
+            Advance::Passes => {}
+            Advance::Closes(slot) => self.put(slot, None),
+            Advance::Rises => {
+                self.bar = lift(position, self.bar);
+                self.rows = [None; SLOTS];
+                self.epoch += 1;
+            }
+        }
     }
 }

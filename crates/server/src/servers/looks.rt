@@ -9,7 +9,8 @@ ghost use Rattle.server.specs.Looking.{Looks, slot_of, FreeIn, Found, Runnable, 
 
 use super::Server;
 use crate::counts::ServerCount;
-use crate::rows::{Open, Slot};
+use crate::rows::Open;
+use crate::slots::Slot;
 use crate::states::{Arrival, Outcome, arrive};
 use broadcast::Broadcast;
 use journal::{Judgement, judge, primary};

@@ -7,7 +7,8 @@ ghost use Rattle.server.specs.Shown.{rows_of, seen_row, row_after, shown};
 ghost use Rattle.server.specs.Looking.{found_of, Free};
 
 use super::Server;
-use crate::rows::{Open, Row, Slot};
+use crate::rows::{Open, Row};
+use crate::slots::Slot;
 
 impl Server {
     /// A slot that has no transaction.

@@ -1,58 +1,45 @@
-use Rattle.std.proofs.Common.{◌≡◌, ℕ, Ok, Result, sym, refl, subst, ⊎_elim}
+use Rattle.std.proofs.Common.{◌≡◌, ℕ, Ok, refl}
 use Rattle.replica.specs.Meanings.{Meaning}
-use Rattle.message.specs.declared.messages.Message.{Message}
-use Rattle.message.specs.declared.messages.Message.TheVariants as message
-use Rattle.message.specs.Messages.{msg_of}
+use Rattle.message.specs.declared.messages.Message.TheVariants.{Epoch}
+use Rattle.message.specs.Messages.{Msg, msg_of}
 use Rattle.journal.specs.declared.verdicts.Judgement.{Judgement}
-use Rattle.journal.specs.declared.verdicts.Judgement.TheVariants as judgement
-use Rattle.journal.specs.Judging.{stale, late}
+use Rattle.journal.specs.declared.verdicts.Judgement.TheVariants.{Accepted, Stale, Committed, Late, Again}
+use Rattle.journal.specs.Judging.{stale, committed, late, again}
 use Rattle.journal.specs.Verdicts.{judged_of}
-use Rattle.pronto.specs.declared.faults.ServerFault.{ServerFault}
-use Rattle.pronto.specs.Delivering.{handle_why, handled}
-use Rattle.pronto.specs.Acts.{NothingTold}
 use Rattle.server.specs.declared.servers.Server.{Server}
-use Rattle.server.specs.Acting.{Handles}
-use Rattle.server.proofs.Settling.{obeyed_here}
-use Rattle.server.proofs.Handling.{rises}
+use Rattle.server.specs.declared.servers.advances.Advance.TheVariants.{Passes}
+use Rattle.server.specs.Acting.{Meets}
+use Rattle.server.proofs.Handling.{rises, passes}
 use Rattle.server.proofs.handles.handle.Goals as goal
 
--- the judgement and the message are what the arms say
-at_arm : (size number i : ℕ) (v : Server) (ms : ℕ → Meaning) (w : Server) (ns : ℕ → Meaning) (r : Result (Unit {0}) ServerFault) (x y : Judgement) (a b : Message) → x ≡ y → a ≡ b →
-    Handles size number (judged_of y) (msg_of b) r i v ms w ns → Handles size number (judged_of x) (msg_of a) r i v ms w ns
-at_arm size number i v ms w ns r x y a b e f h =
-    let F : Judgement → Type 0 = λ x. Handles size number (judged_of x) (msg_of a) r i v ms w ns in
-    let G : Message → Type 0 = λ a. Handles size number (judged_of y) (msg_of a) r i v ms w ns in
-    subst F (sym e) (subst G (sym f) h)
+pub returns-in-Accepted-default : goal.returns-in-Accepted-default
+returns-in-Accepted-default g c =
+    let a = c.args in
+    rw c.in-Accepted-default.is-0
+    (rises g.K.ReplicaBank.size a.number a.place a.server.now (g.K.ReplicaBank.meanings a.bank.now) (msg_of a.message.now) (g.K.ReplicaBank.meanings c.lose.new.self) c.lose.ensures)
 
-pub returns-in-Accepted : goal.returns-in-Accepted
-returns-in-Accepted g c =
-    let a = c.args in let size = g.K.ReplicaBank.size in let ms = g.K.ReplicaBank.meanings a.bank.now in let ns = g.K.ReplicaBank.meanings c.lose.new.self in let m = a.message.now in
-    at_arm size a.number a.place a.server.now ms c.rise.new.self ns (Ok tt) a.judgement judgement.Accepted m m c.in-Accepted.is refl
-    (rises size a.number a.place a.server.now ms (msg_of m) c.rise.new.self ns c.lose.ensures c.rise.ensures)
+pub returns-in_default : goal.returns-in_default
+returns-in_default g c =
+    let a = c.args in let m = msg_of (Epoch c.in_default.field-0-1) in
+    rw (c.in_default.is-0, c.in_default.is-1) (passes g.K.ReplicaBank.size a.number a.place a.server.now (g.K.ReplicaBank.meanings a.bank.now) committed m refl refl)
 
-pub returns-in-Stale : goal.returns-in-Stale
-returns-in-Stale g c =
-    let a = c.args in let size = g.K.ReplicaBank.size in let ms = g.K.ReplicaBank.meanings a.bank.now in let m = a.message.now in let w = c.pass.new.self in let pass = c.pass.ensures (ms a.place) in
-    let arm = λ (x : Judgement) (is : a.judgement ≡ x). at_arm size a.number a.place a.server.now ms w ms (Ok tt) a.judgement x m m is refl in
-    ⊎_elim
-    (λ is. arm judgement.Stale is (obeyed_here (handle_why size a.place a.number stale (msg_of m)) NothingTold (handled a.number stale (msg_of m)) a.place a.server.now ms tt w refl tt pass))
-    (λ is. arm judgement.Late is (obeyed_here (handle_why size a.place a.number late (msg_of m)) NothingTold (handled a.number late (msg_of m)) a.place a.server.now ms tt w refl tt pass))
-    c.in-Stale.is
+pub returns-in_default-2 : goal.returns-in_default-2
+returns-in_default-2 g c =
+    let a = c.args in let m = msg_of (Epoch c.in_default.field-0-1) in
+    rw (c.in_default.is-0, c.in_default.is-1)
+    (passes g.K.ReplicaBank.size a.number a.place a.server.now (g.K.ReplicaBank.meanings a.bank.now) (again c.in_default.field-0-0) m refl refl)
 
-pub returns-in-Epoch : goal.returns-in-Epoch
-returns-in-Epoch g c =
-    let a = c.args in let size = g.K.ReplicaBank.size in let ms = g.K.ReplicaBank.meanings a.bank.now in let m = message.Epoch c.in-Epoch.field-0 in let j = judged_of judgement.Committed in
-    at_arm size a.number a.place a.server.now ms c.pass-in-Epoch.new.self ms (Ok tt) a.judgement judgement.Committed a.message.now m c.in-Committed.is c.in-Epoch.is
-    (obeyed_here (handle_why size a.place a.number j (msg_of m)) NothingTold (handled a.number j (msg_of m)) a.place a.server.now ms tt c.pass-in-Epoch.new.self refl tt (c.pass-in-Epoch.ensures (ms a.place)))
+-- stale or late
+unused : (databases number i : ℕ) (v : Server) (ms : ℕ → Meaning) (m : Msg) (j : Judgement) → (j ≡ Accepted → ⊥) → (j ≡ Committed → ⊥) → ((p : ℕ) → j ≡ Again p → ⊥) →
+    Meets databases number (judged_of j) m (Ok Passes) i v ms ms
+unused databases number i v ms m Accepted a b d = absurd (a refl)
+unused databases number i v ms m Committed a b d = absurd (b refl)
+unused databases number i v ms m (Again p) a b d = absurd (d p refl)
+unused databases number i v ms m Stale a b d = passes databases number i v ms stale m refl refl
+unused databases number i v ms m Late a b d = passes databases number i v ms late m refl refl
 
-pub returns-in-Epoch-message : goal.returns-in-Epoch-message
-returns-in-Epoch-message g c =
-    let a = c.args in let size = g.K.ReplicaBank.size in let ms = g.K.ReplicaBank.meanings a.bank.now in let m = message.Epoch c.in-Epoch-message.field-0 in let x = judgement.Again c.in-Again.field-0 in let j = judged_of x in
-    at_arm size a.number a.place a.server.now ms c.pass-in-Epoch-message.new.self ms (Ok tt) a.judgement x a.message.now m c.in-Again.is c.in-Epoch-message.is
-    (obeyed_here (handle_why size a.place a.number j (msg_of m)) NothingTold (handled a.number j (msg_of m)) a.place a.server.now ms tt c.pass-in-Epoch-message.new.self refl tt (c.pass-in-Epoch-message.ensures (ms a.place)))
-
-pub returns-in-Transaction-message : goal.returns-in-Transaction-message
-returns-in-Transaction-message g c =
-    let a = c.args in let size = g.K.ReplicaBank.size in let ms = g.K.ReplicaBank.meanings a.bank.now in
-    at_arm size a.number a.place a.server.now ms c.repeat.new.server (g.K.ReplicaBank.meanings c.repeat.new.bank) c.repeat.result a.judgement (judgement.Again c.in-Again.field-0) a.message.now (message.Transaction c.in-Transaction-message.transaction) c.in-Again.is c.in-Transaction-message.is
-    (c.repeat.ensures c.in-Again.field-0)
+pub returns-in_default-3 : goal.returns-in_default-3
+returns-in_default-3 g c =
+    let a = c.args in
+    let none = c.in_default in
+    unused g.K.ReplicaBank.size a.number a.place a.server.now (g.K.ReplicaBank.meanings a.bank.now) (msg_of a.message.now) a.judgement none.not-Accepted-0 none.not-Committed-0 none.not-Again-0

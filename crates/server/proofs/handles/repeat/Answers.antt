@@ -5,19 +5,19 @@ use Rattle.server.proofs.handles.repeat.Goals as goal
 
 pub returns-in_err-undo-in-Some : goal.returns-in_err-undo-in-Some
 returns-in_err-undo-in-Some g c =
-    let a = c.args in let ms = g.K.ReplicaBank.meanings a.bank.now in
+    let a = c.args in
     let p = err_from_is_err_and c.from_residual.result c.from_residual.ensures.1 in
     rw (p.1, p.2) (λ q.
-    undo_fails g.K.ReplicaBank.size a.number a.place a.server.now ms (tx_of a.message.now) c.in-Some.slot.index c.in-Some.ensures q c.in_err-undo-in-Some.field-0.0
-    (g.K.ReplicaBank.meanings c.undo.new.self) c.in_err-undo-in-Some.ensures)
+    undo_fails g.K.ReplicaBank.size a.number a.place a.server.now (g.K.ReplicaBank.meanings a.bank.now) (tx_of a.message.now) c.in-Some.slot c.in-Some.ensures q
+    c.in_err-undo-in-Some.field-0.0 (g.K.ReplicaBank.meanings c.undo.new.self) c.in_err-undo-in-Some.ensures)
 
 pub returns-in_ok-undo-in-Some : goal.returns-in_ok-undo-in-Some
 returns-in_ok-undo-in-Some g c = λ q.
-    let a = c.args in let ms = g.K.ReplicaBank.meanings a.bank.now in
-    undo_done g.K.ReplicaBank.size a.number a.place a.server.now ms (tx_of a.message.now) c.in-Some.slot.index c.in-Some.ensures q c.close.new.self
-    (g.K.ReplicaBank.meanings c.undo.new.self) c.in_ok-undo-in-Some.ensures c.close.ensures
+    let a = c.args in
+    undo_done g.K.ReplicaBank.size a.number a.place a.server.now (g.K.ReplicaBank.meanings a.bank.now) (tx_of a.message.now) c.in-Some.slot c.in-Some.ensures q
+    (g.K.ReplicaBank.meanings c.undo.new.self) c.in_ok-undo-in-Some.ensures
 
 pub returns-in-None : goal.returns-in-None
-returns-in-None g c = λ q.
-    let a = c.args in let ms = g.K.ReplicaBank.meanings a.bank.now in
-    again_passes g.K.ReplicaBank.size a.number a.place a.server.now ms (tx_of a.message.now) c.in-None.ensures q c.pass.new.self c.pass.ensures
+returns-in-None g c =
+    let a = c.args in
+    again_passes g.K.ReplicaBank.size a.number a.place a.server.now (g.K.ReplicaBank.meanings a.bank.now) (tx_of a.message.now) c.in-None.ensures
