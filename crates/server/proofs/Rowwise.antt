@@ -1,12 +1,11 @@
 -- Tables read as functions of the slot: a write is an update, and a search goes slot by slot.
-use Rattle.std.proofs.Common.{◌≡◌, ℕ, zero, suc, ◌+◌, ◌<◌, Bool, true, false, cond, List, length, get_or, set, replicate, Some, None, Option, sym, refl, ap, ◌∙◌, add-one, arith, ◌==◌, ◌&&◌}
+use Rattle.std.proofs.Common.{◌≡◌, ℕ, zero, suc, ◌+◌, ◌<◌, Bool, true, false, cond, List, length, get_or, set, Some, None, Option, sym, refl, ap, ◌∙◌, add-one, ◌==◌, ◌&&◌}
 use Rattle.std.specs.Bool.{then_some}
 use mathlib.Core.Path.{fun_ext}
 use native.Mathlib.Decide.{ℕ_discrete}
 use Rattle.std.proofs.lemmas.List.{get_or-set_same, get_or-set_other, get_or_default}
 use Rattle.replica.specs.Meanings.{upd, or_else}
 use Rattle.replica.proofs.Updates.{upd_same, upd_other}
-use Rattle.replica.proofs.Indices.{all_same}
 use Rattle.pronto.specs.Servers.{Work}
 use Rattle.pronto.specs.Refusing.{seek, or_below, names}
 use Rattle.server.specs.declared.rows.Row.{Row}
@@ -47,9 +46,6 @@ module _ (c k p : ℕ) (below : Option (ℕ × Work)) where
       by true h = cc
       by false h = refl
 
-pub rows_none : rows_of (replicate 8 None) ≡ (λ _. None)
-rows_none = fun_ext (λ p. ap seen_row (all_same 8 None p))
-
 pub seek_more : (rows : ℕ → Option Work) (c k i : ℕ) (x : Option Work) → rows i ≡ x → seek rows c k (i + 1) ≡ or_below c k x i (seek rows c k i)
 unfolding seek
 seek_more rows c k i x e = rw add-one (ap (λ y. or_below c k y i (seek rows c k i)) e)
@@ -57,7 +53,7 @@ seek_more rows c k i x e = rw add-one (ap (λ y. or_below c k y i (seek rows c k
 -- what a search finds stands in its slot
 pub seek_row : (rows : ℕ → Option Work) (c k n p : ℕ) (w : Work) → seek rows c k n ≡ Some (p, w) → rows p ≡ Some w
 unfolding seek
-seek_row rows c k zero p w e = let z : ◌≡◌ {A = ℕ} 0 1 = cc in absurd (omega arith)
+seek_row rows c k zero p w e = absurd (cc)
 seek_row rows c k (suc n) p w e = by_row (seek rows c k n) (seek_row rows c k n p w) (rows n) refl e
   where
     by_name : (below : Option (ℕ × Work)) → (below ≡ Some (p, w) → rows p ≡ Some w) → (b : Bool) (y : Work) → rows n ≡ Some y → cond b (Some (n, y)) below ≡ Some (p, w) → rows p ≡ Some w

@@ -5,14 +5,14 @@ ghost use Rattle.server.specs.Counts.{Counted};
 use super::ServerCount;
 
 /// The most servers that an ensemble has.
-const MOST: u64 = 8;
+const MOST_SERVERS: u64 = 8;
 
 impl ServerCount {
     /// That many servers; `None` exactly where the number is 0 or above 8.
     pub fn new(count: u64) -> Option<ServerCount>
         ensures { Counted result count }
     {
-        if (1..=MOST).contains(&count) {
+        if (1..=MOST_SERVERS).contains(&count) {
             Some(ServerCount { count: count as u8 })
         } else {
             None

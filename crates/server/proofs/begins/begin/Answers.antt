@@ -1,4 +1,4 @@
-use Rattle.std.proofs.Common.{◌≡◌, ℕ, false, List, Some, refl, ap, ◌∙◌, arith}
+use Rattle.std.proofs.Common.{ℕ, false, List, Some, refl, ap, ◌∙◌}
 use Rattle.std.proofs.lemmas.Result.{err_from_is_err_and}
 use Rattle.statement.specs.declared.checked.Statement.{Statement}
 use Rattle.message.specs.Noted.{results_of}
@@ -23,7 +23,7 @@ returns-in_err-slot g c =
     let p = err_from_is_err_and c.from_residual.result c.from_residual.ensures.1 in
     rw (p.1, p.2) (record {
       slot = 0;
-      free = λ h. let z : ◌≡◌ {A = ℕ} 0 1 = cc (look, h) in absurd (omega arith);
+      free = λ h. absurd (cc (look, h));
       settled =
           refused (λ s. begin_why size a.place n a.id.server s a.id.client a.id.job 0) NothingTold (λ s. begun s 0 a.id.client a.id.job) a.place a.server.now ms e ms
           (begin_refused size a.place n a.id.server a.id.client a.id.job (shown a.server.now (ms a.place)) 0 e look) refl;
