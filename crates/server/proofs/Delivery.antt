@@ -1,5 +1,5 @@
 -- The ways out of deliver.
-use Rattle.std.proofs.Common.{◌≡◌, ℕ, List, Some, None, Ok, Err, Option, sym, refl, ap, ◌∙◌}
+use Rattle.std.proofs.Common.{◌≡◌, ℕ, List, Some, None, Ok, Err, sym, refl, ◌∙◌}
 use Rattle.replica.specs.Meanings.{Meaning}
 use Rattle.message.specs.Messages.{Msg}
 use Rattle.broadcast.specs.Bags.{nth}
@@ -7,8 +7,8 @@ use Rattle.journal.specs.Verdicts.{judged_of}
 use Rattle.journal.specs.declared.verdicts.Judgement.{Judgement}
 use Rattle.pronto.specs.declared.faults.ServerFault.{ServerFault}
 use Rattle.pronto.specs.Servers.{Site}
-use Rattle.pronto.specs.Refusing.{first, and_then}
-use Rattle.pronto.specs.Delivering.{handle_why, handled, deliver_table, deliver_why, deliver_after, Tells, verdict, if_next}
+use Rattle.pronto.specs.Refusing.{first}
+use Rattle.pronto.specs.Delivering.{handle_why, handled, deliver_table, deliver_why, deliver_after, Tells, verdict}
 use Rattle.server.specs.declared.servers.Server.{Server}
 use Rattle.server.specs.declared.servers.advances.Advance.{Advance}
 use Rattle.server.specs.Shown.{shown, advanced}
@@ -19,27 +19,22 @@ module _ (databases : ℕ) (log : List Msg) (number i : ℕ) (v : Server) (ms : 
   abbrev S : Site
   S = shown v (ms i)
 
-  abbrev asks : Option Msg → Option ServerFault
-  asks next = if_next next None (λ m. handle_why databases i number (verdict log S m) m S)
-
-  why_turned : (x : Option ServerFault) → first (deliver_table log S) ≡ x → deliver_why log databases i number S ≡ and_then x (asks (nth log v.delivered))
-  unfolding deliver_why
-  why_turned x h = ap (λ y. and_then y (asks (nth log v.delivered))) h
-
   pub deliver_turned : (e : ServerFault) → first (deliver_table log S) ≡ Some e → Delivers databases log number (Err e) i v ms v ms
-  deliver_turned e h = refused (deliver_why log databases i number) (Tells log) (deliver_after log number) i v ms e ms (why_turned (Some e) h) refl
+  unfolding deliver_why
+  deliver_turned e h = refused (deliver_why log databases i number) (Tells log) (deliver_after log number) i v ms e ms (rw h) refl
 
   module _ (m : Msg) (x : Judgement) (free : first (deliver_table log S) ≡ None) (here : nth log v.delivered ≡ Some m) (is : verdict log S m ≡ judged_of x) where
     asked : deliver_why log databases i number S ≡ handle_why databases i number (judged_of x) m S
-    asked = why_turned None free ∙ ap asks here ∙ ap (λ j. handle_why databases i number j m S) is
+    unfolding deliver_why
+    asked = rw (free, here, is)
 
     leaves : deliver_after log number S ≡ handled number (judged_of x) m S
     unfolding deliver_after
-    leaves = ap (λ o. if_next o S (λ m. handled number (verdict log S m) m S)) here ∙ ap (λ j. handled number j m S) is
+    leaves = rw (here, is)
 
     tells : (p : ℕ) → p ≡ v.delivered → Tells log S (p, x)
     unfolding Tells
-    tells p s = (s, ap (λ o. if_next o None (λ m. Some (verdict log S m))) here ∙ ap Some is)
+    tells p s = (s, rw (here, is))
 
     pub deliver_fails : (e : ServerFault) (ns : ℕ → Meaning) → Meets databases number (judged_of x) m (Err e) i v ms ns → Delivers databases log number (Err e) i v ms v ns
     deliver_fails e ns told = ((asked ∙ told.0.0, told.0.1), told.1)

@@ -1,6 +1,6 @@
 pub mod Rowwise
 pub mod Settling
-pub mod Reasons
+pub mod Acting
 pub mod Arriving
 pub mod Handling
 pub mod Delivery

@@ -1,7 +1,7 @@
 use Rattle.std.proofs.Common.{sym}
 use Rattle.std.proofs.lemmas.Result.{err_from_is_err_and}
 use Rattle.server.specs.Shown.{shown, work_of}
-use Rattle.server.proofs.Reasons.{commit_sends}
+use Rattle.server.proofs.Acting.{commit_sends}
 use Rattle.server.proofs.servers.Server.commit_message.Goals as goal
 
 pub returns-in_err-transaction : goal.returns-in_err-transaction
