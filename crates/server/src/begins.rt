@@ -4,9 +4,7 @@ ghost use Rattle.server.specs.Acting.{Begins};
 use crate::counts::ServerCount;
 use crate::rows::Row;
 use crate::servers::Server;
-use crate::states::State;
 use bank::DatabaseBank;
-use message::Notes;
 use pronto::{ServerFault, TransactionId};
 
 /// Opens the transaction of a client's job in a free slot, at its server among so many.
@@ -24,14 +22,6 @@ pub fn begin<K: DatabaseBank>(
 {
     let slot = server.look_begin(count, id)?;
     bank.open(place, slot.index)?;
-    server.put(
-        slot,
-        Some(Row {
-            client: id.client,
-            job: id.job,
-            notes: Notes::new(),
-            state: State::Executing,
-        }),
-    );
+    server.put(slot, Some(Row::new(id.client, id.job)));
     Ok(())
 }

@@ -1,6 +1,8 @@
 //! One server with its database: what each act does there (docs/acts.md).
 #![tactic(auto)]
 
+// kept: each act takes a server, a bank and a place. A struct that lends all three names their last values by position in its contracts, as
+// `self.exit.1.0.now`, and the public functions would only wrap its methods.
 pub mod begins;
 pub mod counts;
 pub mod delivers;

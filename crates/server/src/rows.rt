@@ -1,6 +1,7 @@
 //! The open transactions of a server.
 ghost use Rattle.std.specs.Prelude.{◌≡◌, ◌&&◌, ◌==◌};
-ghost use Rattle.server.specs.Shown.{seen_row, row_after};
+ghost use Rattle.pronto.specs.Servers.{new_work};
+ghost use Rattle.server.specs.Shown.{work_of, seen_row, row_after};
 
 use crate::slots::Slot;
 use crate::states::{Outcome, State};
@@ -24,6 +25,18 @@ pub struct Open {
 }
 
 impl Row {
+    /// An executing transaction of a client's job, which ran nothing yet.
+    pub fn new(client: u8, job: u32) -> Row
+        ensures { work_of result ≡ new_work client job }
+    {
+        Row {
+            client,
+            job,
+            notes: Notes::new(),
+            state: State::Executing,
+        }
+    }
+
     /// Whether the transaction is of this client's job.
     pub fn names(&self, client: u8, job: u32) -> bool
         ensures { result ≡ (self.now.client == client && self.now.job == job) }

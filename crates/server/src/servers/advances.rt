@@ -1,7 +1,6 @@
 //! How a delivered message changes a server, apart from its database.
 ghost use Rattle.std.specs.Prelude.{◌≡◌, ◌<◌};
 ghost use Rattle.replica.specs.Meanings.{Meaning};
-ghost use Rattle.pronto.specs.Servers.{lifted};
 ghost use Rattle.server.specs.Shown.{shown, advanced};
 
 use super::Server;
@@ -19,13 +18,6 @@ pub(crate) enum Advance {
     Rises,
 }
 
-/// The bar after an epoch message that is accepted at a position: lifted, unless the position is below it.
-pub(crate) fn lift(position: u64, bar: Option<u64>) -> Option<u64>
-    ensures { result ≡ lifted position bar }
-{
-    bar.filter(|b| *b > position)
-}
-
 impl Server {
     /// One message further.
     pub(crate) fn advance(&mut self, advance: Advance)
@@ -38,7 +30,7 @@ impl Server {
             Advance::Passes => {}
             Advance::Closes(slot) => self.put(slot, None),
             Advance::Rises => {
-                self.bar = lift(position, self.bar);
+                self.bar = self.bar.filter(|bar| *bar > position);
                 self.rows = [None; SLOTS];
                 self.epoch += 1;
             }

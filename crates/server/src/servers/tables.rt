@@ -15,7 +15,7 @@ impl Server {
     pub(crate) fn free_slot(&self) -> Option<Slot>
         ensures { Free (rows_of self.now.rows) result }
     {
-        let index = self.rows.iter().position(|entry| entry.is_none())?;
+        let index = self.rows.iter().position(Option::is_none)?;
         Some(Slot { index })
     }
 
