@@ -34,8 +34,7 @@ impl Server {
 
     /// Has this row in a slot.
     pub(crate) fn put(&mut self, slot: Slot, row: Option<Row>)
-        ensures row { (m : Meaning) → shown self.new m ≡ with_row (shown self.old m) slot.index (seen_row row) }
-        ensures delivered { self.new.delivered ≡ self.old.delivered }
+        ensures { (m : Meaning) → shown self.new m ≡ with_row (shown self.old m) slot.index (seen_row row) }
     {
         self.rows[slot.index] = row;
     }

@@ -19,4 +19,4 @@ pub returns : goal.returns
 returns g c =
     let a = c.args in let ms = g.K.ReplicaBank.meanings a.bank.now in let s = c.in_ok-slot in let look = s.ensures (ms a.place) in
     begin_done a.place a.server.now ms g.K.ReplicaBank.size a.count.count a.id.server a.id.client a.id.job s.slot look.0 look.1 (g.K.ReplicaBank.meanings c.open.new.self)
-    c.put.new.self c.in_ok-open.ensures (rw c.new.ensures at c.put.ensures.row)
+    c.put.new.self c.in_ok-open.ensures (rw c.new.ensures at c.put.ensures)

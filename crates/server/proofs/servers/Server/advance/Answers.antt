@@ -3,7 +3,7 @@ use Rattle.pronto.specs.Servers.{lifted}
 use Rattle.server.proofs.servers.Server.advance.Goals as goal
 
 pub returns-in-Closes : goal.returns-in-Closes
-returns-in-Closes c = rw c.in-Closes.is c.put.ensures.row
+returns-in-Closes c = rw c.in-Closes.is c.put.ensures
 
 pub returns-in-Rises : goal.returns-in-Rises
 returns-in-Rises c =
