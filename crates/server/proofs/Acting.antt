@@ -1,5 +1,5 @@
 -- The ways out of begin, run and abort, from what the look found and what the database answered; and what a commit sends and leaves.
-use Rattle.std.proofs.Common.{◌≡◌, ℕ, true, Some, None, Ok, Err, Option, sym, refl, ap, ◌∙◌}
+use Rattle.std.proofs.Common.{◌≡◌, ℕ, true, Some, None, Ok, Err, Option, sym, refl, ap, ◌∙◌, ⊎_elim}
 use Rattle.statement.specs.declared.operation.Operation.{Operation}
 use Rattle.statement.specs.declared.checked.Statement.{Statement}
 use Rattle.replica.specs.declared.faults.Fault.{Fault}
@@ -17,9 +17,9 @@ use Rattle.pronto.specs.Acts.{NothingTold, message_of, message_to_commit}
 use Rattle.server.specs.declared.rows.Open.{Open}
 use Rattle.server.specs.declared.servers.Server.{Server}
 use Rattle.server.specs.declared.slots.Slot.{Slot}
-use Rattle.server.specs.declared.states.Arrival.TheVariants.{Abort}
+use Rattle.server.specs.declared.states.Arrival.TheVariants.{Commit, Abort}
 use Rattle.server.specs.declared.states.Outcome.TheVariants.{Stays, Ends}
-use Rattle.server.specs.Looking.{FreeIn, Found, Runnable}
+use Rattle.server.specs.Looking.{FreeIn, Found, Reaches, Runnable}
 use Rattle.server.specs.Shown.{shown, row_after}
 use Rattle.server.specs.Acting.{Begins, Runs, Aborts}
 use Rattle.server.proofs.Rowwise.{upd_self, seek_row}
@@ -140,6 +140,11 @@ module _ (c k : ℕ) (v : Site) where
         let same : committing_now w ≡ w = ap (λ b. record w { committing = b }) (sym already) in
         rw here (ap (λ (f : ℕ → Option Work). record v { rows = f }) (ap (λ (x : Work). upd v.rows p (Some x)) same ∙ ap (upd v.rows p) (sym row) ∙ upd_self v.rows p))
 
-  pub commit_leaves_all : find v c k ≡ None → commit_after v c k ≡ v
+  -- it is not open, or committing already
+  pub commit_unreached : (e : ServerFault) → Reaches Commit (find v c k) (Err e) → commit_after v c k ≡ v
   unfolding commit_after
-  commit_leaves_all none = rw none
+  commit_unreached e h = by (find v c k) refl h
+    where
+      by : (found : Option (ℕ × Work)) → find v c k ≡ found → Reaches Commit found (Err e) → commit_after v c k ≡ v
+      by None is told = rw is
+      by (Some y) is told = commit_again y.0 y.1 is (⊎_elim (λ none. absurd (cc none.0)) (λ already. already.1) told)

@@ -1,5 +1,5 @@
 -- What a server finds when it looks before an act.
-use Rattle.std.specs.Prelude.{◌≡◌, ℕ, ◌<◌, Bool, false, not, List, length, is_some, Some, None, Ok, Err, Option, Result}
+use Rattle.std.specs.Prelude.{◌≡◌, ◌⊎◌, ℕ, ◌<◌, ◌≤◌, Bool, true, false, not, List, length, is_some, Some, None, Ok, Err, Option, Result}
 use Rattle.std.specs.Borrow.{Bor}
 use Rattle.statement.specs.declared.operation.Operation.{Operation}
 use Rattle.statement.specs.declared.checked.Statement.{Statement}
@@ -11,8 +11,10 @@ use Rattle.broadcast.specs.Bags.{nth}
 use Rattle.journal.specs.declared.verdicts.Judgement.{Judgement}
 use Rattle.journal.specs.Verdicts.{judged_of}
 use Rattle.pronto.specs.declared.faults.ServerFault.{ServerFault}
+use Rattle.pronto.specs.declared.faults.ServerFault.TheVariants as fault
 use Rattle.pronto.specs.Servers.{Work, Site}
 use Rattle.pronto.specs.Refusing.{if_found}
+use Rattle.pronto.specs.Refusing.{is_committing as found_committing}
 use Rattle.pronto.specs.Delivering.{verdict}
 use Rattle.server.specs.declared.states.State.{State}
 use Rattle.server.specs.declared.states.State.TheVariants.{Executing}
@@ -20,6 +22,7 @@ use Rattle.server.specs.declared.states.Arrival.{Arrival}
 use Rattle.server.specs.declared.states.Arrival.TheVariants.{Run}
 use Rattle.server.specs.declared.rows.Row.{Row}
 use Rattle.server.specs.declared.slots.Slot.{Slot}
+use Rattle.server.specs.declared.servers.Server.{Server}
 use Rattle.server.specs.declared.rows.Open.{Open}
 use Rattle.server.specs.Outcomes.{outcome_of, is_committing}
 use Rattle.server.specs.Shown.{work_of}
@@ -28,6 +31,17 @@ use Rattle.server.specs.Shown.{work_of}
 abbrev pub Looks : {T : Type 0} → Result T ServerFault → Option ServerFault → (T → Type 0) → Type 0
 Looks (Ok x) why Right = (why ≡ None) × Right x
 Looks (Err e) why Right = why ≡ Some e
+
+-- The server runs and the client exists; otherwise, which of these fails first.
+abbrev pub Admits : Server → ℕ → Result (Unit {0}) ServerFault → Type 0
+Admits v c (Ok u) = (v.running ≡ true) × (c ≤ 15)
+Admits v c (Err e) = ((v.running ≡ false) × (e ≡ fault.Stopped)) ⊎ ((v.running ≡ true) × (15 < c) × (e ≡ fault.NoClient))
+
+-- The transaction that was found, and what becomes of it; otherwise there is none, or it is committing.
+abbrev pub Reaches : Arrival → Option (ℕ × Work) → Result Open ServerFault → Type 0
+Reaches a found (Ok x) = (found ≡ Some (x.slot.index, work_of x.row)) × (outcome_of x.row.state a ≡ Ok x.outcome)
+Reaches a found (Err e) =
+    ((found ≡ None) × (e ≡ fault.NoTransaction)) ⊎ ((is_some found ≡ true) × (found_committing found ≡ true) × (e ≡ fault.Committing))
 
 -- A look that finds nothing more.
 abbrev pub Nothing : Unit {0} → Type 0

@@ -1,11 +1,11 @@
 //! What turns an act down before the database is asked: for each act its table's tests, in the table's order.
 ghost use Rattle.std.specs.Prelude.{◌≡◌, true};
 ghost use Rattle.replica.specs.Meanings.{Meaning};
-ghost use Rattle.pronto.specs.Refusing.{first, begin_table, run_table, open_table, running_table, start_table, find};
+ghost use Rattle.pronto.specs.Refusing.{first, begin_table, run_table, open_table, running_table, start_table, find, seek};
 ghost use Rattle.pronto.specs.Delivering.{deliver_table, own_at};
 ghost use Rattle.server.specs.Shown.{rows_of, shown};
 ghost use Rattle.server.specs.Outcomes.{asks};
-ghost use Rattle.server.specs.Looking.{Looks, slot_of, FreeIn, Found, Runnable, Next, Nothing};
+ghost use Rattle.server.specs.Looking.{Looks, Admits, Reaches, slot_of, FreeIn, Found, Runnable, Next, Nothing};
 
 use super::Server;
 use crate::counts::ServerCount;
@@ -22,6 +22,30 @@ use statement::{Operation, Statement};
 pub const LAST_CLIENT: u8 = 15;
 
 impl Server {
+    /// What every act of a client asks first: the server runs, and the client exists.
+    fn admit(&self, client: u8) -> Result<(), ServerFault>
+        ensures { Admits self.now client result }
+    {
+        if !self.running {
+            return Err(ServerFault::Stopped);
+        }
+        if client > LAST_CLIENT {
+            return Err(ServerFault::NoClient);
+        }
+        Ok(())
+    }
+
+    /// The transaction of a client's job, and what becomes of it when this reaches it.
+    pub(crate) fn reach(&self, id: TransactionId, arrival: Arrival) -> Result<Open, ServerFault>
+        ensures { Reaches arrival (seek (rows_of self.now.rows) id.client id.job 8) result }
+    {
+        let (slot, row) = self
+            .find(id.client, id.job)
+            .ok_or(ServerFault::NoTransaction)?;
+        let outcome = arrive(row.state, arrival)?;
+        Ok(Open { slot, row, outcome })
+    }
+
     /// The slot that a begin takes.
     pub(crate) fn look_begin(
         &self,
@@ -30,12 +54,7 @@ impl Server {
     ) -> Result<Slot, ServerFault>
         ensures { (m : Meaning) → Looks result (first (begin_table count.count id.server (shown self.now m) id.client id.job)) (FreeIn (shown self.now m)) }
     {
-        if !self.running {
-            return Err(ServerFault::Stopped);
-        }
-        if id.client > LAST_CLIENT {
-            return Err(ServerFault::NoClient);
-        }
+        self.admit(id.client)?;
         if primary(u64::from(count.get()), self.epoch) != Some(u64::from(id.server)) {
             return Err(ServerFault::NotPrimary);
         }
@@ -57,21 +76,13 @@ impl Server {
     ) -> Result<(Statement, Open), ServerFault>
         ensures { (m : Meaning) → Looks result (first (run_table (shown self.now m) id.client id.job cell operation)) (Runnable cell operation (find (shown self.now m) id.client id.job)) }
     {
-        if !self.running {
-            return Err(ServerFault::Stopped);
-        }
-        if id.client > LAST_CLIENT {
-            return Err(ServerFault::NoClient);
-        }
+        self.admit(id.client)?;
         let statement = Statement::new(cell, operation).map_err(|_| ServerFault::NoCell)?;
-        let (slot, row) = self
-            .find(id.client, id.job)
-            .ok_or(ServerFault::NoTransaction)?;
-        let outcome = arrive(row.state, Arrival::Run)?;
-        if row.notes.len() >= STATEMENTS {
+        let transaction = self.reach(id, Arrival::Run)?;
+        if transaction.row.notes.len() >= STATEMENTS {
             return Err(ServerFault::Long);
         }
-        Ok((statement, Open { slot, row, outcome }))
+        Ok((statement, transaction))
     }
 
     /// The transaction that is committed or aborted.
@@ -79,17 +90,8 @@ impl Server {
         requires { asks arrival ≡ true }
         ensures { (m : Meaning) → Looks result (first (open_table (shown self.now m) id.client id.job)) (Found arrival (find (shown self.now m) id.client id.job)) }
     {
-        if !self.running {
-            return Err(ServerFault::Stopped);
-        }
-        if id.client > LAST_CLIENT {
-            return Err(ServerFault::NoClient);
-        }
-        let (slot, row) = self
-            .find(id.client, id.job)
-            .ok_or(ServerFault::NoTransaction)?;
-        let outcome = arrive(row.state, arrival)?;
-        Ok(Open { slot, row, outcome })
+        self.admit(id.client)?;
+        self.reach(id, arrival)
     }
 
     /// The message that is delivered next, and its judgement.

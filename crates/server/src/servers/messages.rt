@@ -8,8 +8,7 @@ ghost use Rattle.server.specs.Shown.{shown};
 ghost use Rattle.server.specs.Looking.{Looks};
 
 use super::Server;
-use crate::rows::Open;
-use crate::states::{Arrival, arrive};
+use crate::states::Arrival;
 use message::{EpochChange, Transaction};
 use pronto::{ServerFault, TransactionId};
 
@@ -34,13 +33,9 @@ impl Server {
     pub fn send_off(&mut self, id: TransactionId)
         ensures { (m : Meaning) → shown self.new m ≡ commit_after (shown self.old m) id.client id.job }
     {
-        let Some((slot, row)) = self.find(id.client, id.job) else {
-            return;
-        };
-        let Ok(outcome) = arrive(row.state, Arrival::Commit) else {
-            return;
-        };
-        self.settle(Open { slot, row, outcome });
+        if let Ok(transaction) = self.reach(id, Arrival::Commit) {
+            self.settle(transaction);
+        }
     }
 
     /// The message that a suspect offers, at the server of this number.
