@@ -1,5 +1,5 @@
 //! The open transactions of a server.
-ghost use Rattle.std.specs.Prelude.{◌≡◌, ◌&&◌, ◌==◌};
+ghost use Rattle.std.specs.Prelude.{◌≡◌};
 ghost use Rattle.pronto.specs.Servers.{new_work};
 ghost use Rattle.server.specs.Shown.{work_of, seen_row, row_after};
 
@@ -35,13 +35,6 @@ impl Row {
             notes: Notes::new(),
             state: State::Executing,
         }
-    }
-
-    /// Whether the transaction is of this client's job.
-    pub fn names(&self, client: u8, job: u32) -> bool
-        ensures { result ≡ (self.now.client == client && self.now.job == job) }
-    {
-        self.client == client && self.job == job
     }
 }
 

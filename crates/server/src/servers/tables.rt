@@ -25,7 +25,7 @@ impl Server {
     {
         let mut found = None;
         for (index, entry) in self.rows.iter().enumerate() {
-            if let Some(row) = entry.filter(|row| row.names(client, job)) {
+            if let Some(row) = entry.filter(|row| row.client == client && row.job == job) {
                 found = Some((Slot { index }, row));
             }
         }
