@@ -3,6 +3,7 @@
 
 pub mod broadcasts;
 pub mod faults;
+pub mod wording;
 
 pub use broadcasts::Broadcast;
 pub use faults::{Full, NotOrdered, NothingWaits};

@@ -1,10 +1,15 @@
 -- One message more in a front: what it does to the epoch in force and to where a job was committed.
-use Rattle.std.proofs.Common.{◌≡◌, ℕ, zero, suc, ◌+◌, ◌<◌, ◌≤◌, Bool, true, false, cond, eqb, ◌≢◌, List, [], ◌∷◌, length, take, Some, None, Option, sym, refl, ap, ◌∙◌, add-one, arith}
+use Rattle.std.proofs.Common.{◌≡◌, ℕ, zero, suc, ◌+◌, ◌<◌, ◌≤◌, Bool, true, false, cond, eqb, ◌≢◌, List, [], ◌∷◌, length, take, Some, None, Option, Ok, Err, Result, sym, refl, ap, ◌∙◌, add-one, arith}
 use native.Mathlib.Decide.{ℕ_discrete}
 use Rattle.std.proofs.lemmas.Bool.{eq-eqb, ne_eqb}
+use Rattle.std.specs.Borrow.{Bor}
+use Rattle.std.specs.Option.{option_or}
+use Rattle.std.specs.Result.{IsOk}
 use Rattle.replica.specs.Meanings.{upd}
+use Rattle.message.specs.declared.messages.Message.{Message}
 use Rattle.message.specs.Messages.{Tx, Msg, epoch_change, transaction}
-use Rattle.broadcast.specs.Bags.{nth}
+use Rattle.broadcast.specs.Bags.{nth, heard}
+use Rattle.broadcast.specs.declared.faults.NotOrdered.{NotOrdered}
 use Rattle.journal.specs.Judging.{Judged, accepted, stale, committed, late, again, Summary, unless_seen, judge, after_judged, next, start, from, at}
 use Rattle.journal.specs.Verdicts.{judged_there}
 use Rattle.replica.proofs.Updates.{upd_same, upd_other}
@@ -64,6 +69,10 @@ module _ (j : Summary) where
       ap (λ s. s.seen t.client t.job) (transaction_moves t true None (eq-eqb t.epoch j.epoch e) s)
       ∙ ap (λ (f : ℕ → Option ℕ). f t.job) (upd_same j.seen t.client (upd (j.seen t.client) t.job (Some j.count))) ∙ upd_same (j.seen t.client) t.job (Some j.count)
 
+  pub transaction_seen : (t : Tx) (o : Option ℕ) → t.epoch ≡ j.epoch → j.seen t.client t.job ≡ o → (next j (transaction t)).seen t.client t.job ≡ option_or o (Some j.count)
+  transaction_seen t None e s = transaction_first t e s
+  transaction_seen t (Some p) e s = transaction_again t t.client t.job p e s ∙ s
+
 counts : (x : Judged) (m : Msg) (j : Summary) → (after_judged x m j).count ≡ j.count + 1
 counts accepted m j = refl
 counts stale m j = refl
@@ -97,6 +106,11 @@ pub nth_some : {X : Type 0} (l : List X) (k : ℕ) (x : X) → nth l k ≡ Some 
 nth_some [] k x e = let z : ◌≡◌ {A = ℕ} 0 1 = cc in absurd (omega arith)
 nth_some (y ∷ l) zero x e = omega arith
 nth_some (y ∷ l) (suc k) x e = let h = nth_some l k x e in omega arith
+
+-- a position below the count of ordered messages has a message
+pub there : (l : List Msg) (k : ℕ) (r : Result (Bor Message) NotOrdered) → k < length l → heard r ≡ nth l k → IsOk r
+there l k (Ok m) h e = refl
+there l k (Err x) h e = let z : length l ≤ k = nth_none l k (sym e) in absurd (omega arith)
 
 -- the judgement of the message that stands at a position
 pub judged_is : (l : List Msg) (p : ℕ) (m : Msg) (x : Judged) → nth l p ≡ Some m → judge (at l p) m ≡ x → judged_there l p (nth l p) ≡ Some x

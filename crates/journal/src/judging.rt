@@ -39,7 +39,7 @@ impl Standing {
                 }
                 Standing {
                     epoch: self.epoch + 1,
-                    earlier: self.earlier,
+                    ..self
                 }
             }
             Message::Transaction(t) => {
@@ -52,12 +52,9 @@ impl Standing {
                 if t.job != job {
                     return self;
                 }
-                match self.earlier {
-                    Some(_) => self,
-                    None => Standing {
-                        epoch: self.epoch,
-                        earlier: Some(position),
-                    },
+                Standing {
+                    earlier: self.earlier.or(Some(position)),
+                    ..self
                 }
             }
         }
@@ -73,10 +70,9 @@ fn before<B: Broadcast>(broadcast: &B, position: u64, client: u8, job: u32) -> S
         epoch: 1,
         earlier: None,
     };
+    // kept: a broadcast lends its messages by position, and the standing notes the position.
     for q in 0..position {
-        let Ok(message) = broadcast.message_at(q) else {
-            return so_far;
-        };
+        let message = broadcast.message_at(q).unwrap();
         so_far = so_far.past(q, message, client, job);
     }
     so_far
@@ -88,9 +84,7 @@ fn before<B: Broadcast>(broadcast: &B, position: u64, client: u8, job: u32) -> S
 pub fn judge<B: Broadcast>(broadcast: &B, position: u64) -> Result<Judgement, NotOrdered>
     ensures { JudgesAt (B.Broadcast.log broadcast.now) position result }
 {
-    let Ok(message) = broadcast.message_at(position) else {
-        return Err(NotOrdered);
-    };
+    let message = broadcast.message_at(position)?;
     match message {
         Message::Epoch(change) => {
             let then = before(broadcast, position, 0, 0);

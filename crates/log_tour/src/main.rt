@@ -1,13 +1,12 @@
 //! A log being made: messages of several servers go through both broadcasts, are ordered, and are judged (docs/judging.md).
 #![tactic(auto)]
 
-use anyhow::anyhow;
-use broadcast::{Broadcast, Full, NotOrdered};
+use broadcast::{Broadcast, Full};
 use in_turn::InTurn;
 use journal::{Judgement, judge};
 use message::{EpochChange, Message, Notes, Transaction};
 use oldest_first::OldestFirst;
-use replica::replay;
+use replica::{CELLS, replay};
 use statement::{Missing, Operation, Statement};
 use std::io;
 
@@ -54,11 +53,9 @@ fn order_all<B: Broadcast>(broadcast: &mut B) {
 }
 
 /// Prints the cells in which two states differ.
-fn show_changes(rt: &HostRuntime, before: &[u64; 64], after: &[u64; 64]) -> io::Result<()> {
-    for c in 0..64 {
-        if before[c] != after[c] {
-            let was = before[c];
-            let is = after[c];
+fn show_changes(rt: &HostRuntime, before: &[u64; CELLS], after: &[u64; CELLS]) -> io::Result<()> {
+    for (c, (was, is)) in before.iter().zip(after).enumerate() {
+        if was != is {
             println!(rt; "   cell {c}: {was} -> {is}")?;
         }
     }
@@ -66,7 +63,7 @@ fn show_changes(rt: &HostRuntime, before: &[u64; 64], after: &[u64; 64]) -> io::
 }
 
 /// The cells after a message, so judged.
-fn cells_after(cells: [u64; 64], message: &Message, judgement: Judgement) -> [u64; 64] {
+fn cells_after(cells: [u64; CELLS], message: &Message, judgement: Judgement) -> [u64; CELLS] {
     match (judgement, message) {
         (Judgement::Committed, Message::Transaction(transaction)) => replay(
             cells,
@@ -78,14 +75,11 @@ fn cells_after(cells: [u64; 64], message: &Message, judgement: Judgement) -> [u6
 
 /// Prints each position of the log with its message, its judgement and the cells that it changed.
 fn show_log<B: Broadcast>(rt: &HostRuntime, broadcast: &B) -> anyhow::Result<()> {
-    let mut cells = [0u64; 64];
+    let mut cells = [0u64; CELLS];
+    // kept: a broadcast lends its messages by position, and each position is printed.
     for position in 0..broadcast.ordered_count() {
-        let Ok(message) = broadcast.message_at(position) else {
-            return Err(anyhow!("no message"));
-        };
-        let Ok(judgement) = judge(broadcast, position) else {
-            return Err(anyhow!("no judgement"));
-        };
+        let message = broadcast.message_at(position)?;
+        let judgement = judge(broadcast, position)?;
         println!(rt; "{position}: {message} -> {judgement}")?;
         let after = cells_after(cells, message, judgement);
         show_changes(rt, &cells, &after)?;
@@ -100,9 +94,7 @@ fn tour<B: Broadcast>(
     broadcast: &mut B,
     messages: &[Message],
 ) -> anyhow::Result<()> {
-    let Ok(()) = offer_all(broadcast, messages) else {
-        return Err(anyhow!("the broadcast is full"));
-    };
+    offer_all(broadcast, messages)?;
     order_all(broadcast);
     show_log(rt, broadcast)
 }

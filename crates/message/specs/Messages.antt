@@ -25,3 +25,13 @@ tx_of t = record { sender = t.sender; epoch = t.epoch; client = t.client; job = 
 abbrev pub msg_of : Message → Msg
 msg_of (message.Epoch c) = epoch_change c.sender c.epoch
 msg_of (message.Transaction t) = transaction (tx_of t)
+
+-- The server that sent a message.
+abbrev pub msg_sender : Msg → ℕ
+msg_sender (epoch_change s e) = s
+msg_sender (transaction t) = t.sender
+
+-- The epoch that a message carries.
+abbrev pub msg_epoch : Msg → ℕ
+msg_epoch (epoch_change s e) = e
+msg_epoch (transaction t) = t.epoch

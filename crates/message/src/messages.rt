@@ -1,6 +1,8 @@
 //! The two kinds of message.
 use crate::notes::Notes;
 
+pub mod asking;
+
 /// A server's wish to end an epoch: it carries the epoch in which the server suspects the primary.
 #[derive(Clone, Copy)]
 pub struct EpochChange {

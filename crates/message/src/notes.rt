@@ -9,6 +9,7 @@ pub mod noting;
 pub const STATEMENTS: usize = 6;
 
 /// The statements of a transaction in the order of their runs, with their results.
+// kept: two arrays and a count, since both parts are lent as slices, and a message is copied without an allocation.
 #[derive(Clone, Copy)]
 pub struct Notes {
     statements: [Statement; STATEMENTS],

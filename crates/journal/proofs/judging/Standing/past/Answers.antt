@@ -1,8 +1,9 @@
 use Rattle.std.proofs.Common.{◌≡◌, ◌+◌, true, false, Some, sym, ap, ◌∙◌, arith}
+use Rattle.std.specs.Option.{option_or}
 use Rattle.std.proofs.lemmas.Bool.{eq-eqb, ne_eqb}
 use Rattle.message.specs.Messages.{msg_of, tx_of, transaction}
 use Rattle.journal.specs.Judging.{next}
-use Rattle.journal.proofs.Summaries.{epoch_moves, transaction_epoch, transaction_late, transaction_other, transaction_again, transaction_first}
+use Rattle.journal.proofs.Summaries.{epoch_moves, transaction_epoch, transaction_late, transaction_other, transaction_seen}
 use Rattle.journal.proofs.judging.Standing.past.Goals as goal
 
 pub returns-then-change-self : goal.returns-then-change-self
@@ -66,31 +67,19 @@ returns-then-t-job c =
       );
     }
 
-pub returns-in-Some : goal.returns-in-Some
-returns-in-Some c =
+pub returns-else-t-job : goal.returns-else-t-job
+returns-else-t-job c =
     let a = c.args in
     let h = c.in-Transaction in
     let t = tx_of h.t in
     record {
       slow = omega arith;
-      step = λ j n st. (
-        st.0 ∙ sym (ap (λ m. (next j (msg_of m)).epoch) h.is ∙ transaction_epoch j t),
-        st.1 ∙ sym (ap (λ m. (next j (msg_of m)).seen a.client a.job) h.is ∙ transaction_again j t a.client a.job c.in-Some.field-0 (c.if-t-self.false ∙ st.0) (ap (λ x. j.seen x t.job) c.if-t-client.false ∙ ap (j.seen a.client) c.if-t-job.false ∙ sym st.1 ∙ c.in-Some.is)),
-      );
-    }
-
-pub returns-in-None : goal.returns-in-None
-returns-in-None c =
-    let a = c.args in
-    let h = c.in-Transaction in
-    let t = tx_of h.t in
-    record {
-      slow = omega arith;
-      step = λ j n st. (
-        st.0 ∙ sym (ap (λ m. (next j (msg_of m)).epoch) h.is ∙ transaction_epoch j t),
-        sym (ap (λ m. (next j (msg_of m)).seen a.client a.job) h.is
-            ∙ ap (λ x. (next j (transaction t)).seen x a.job) (sym c.if-t-client.false) ∙ ap ((next j (transaction t)).seen t.client) (sym c.if-t-job.false)
-            ∙ transaction_first j t (c.if-t-self.false ∙ st.0) (ap (λ x. j.seen x t.job) c.if-t-client.false ∙ ap (j.seen a.client) c.if-t-job.false ∙ sym st.1 ∙ c.in-None.is)
-            ∙ ap Some n),
-      );
+      step = λ j n st.
+          let on : t.epoch ≡ j.epoch = c.if-t-self.false ∙ st.0 in
+          let known : j.seen t.client t.job ≡ a.self.earlier = ap (λ x. j.seen x t.job) c.if-t-client.false ∙ ap (j.seen a.client) c.if-t-job.false ∙ sym st.1 in (
+            st.0 ∙ sym (ap (λ m. (next j (msg_of m)).epoch) h.is ∙ transaction_epoch j t),
+            c.or.ensures ∙ sym (ap (λ m. (next j (msg_of m)).seen a.client a.job) h.is
+                ∙ ap (λ x. (next j (transaction t)).seen x a.job) (sym c.if-t-client.false) ∙ ap ((next j (transaction t)).seen t.client) (sym c.if-t-job.false)
+                ∙ transaction_seen j t a.self.earlier on known ∙ ap (λ k. option_or a.self.earlier (Some k)) n),
+          );
     }
