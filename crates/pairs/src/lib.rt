@@ -6,11 +6,9 @@ ghost use Rattle.replica.specs.Calls.{cleared};
 ghost use Rattle.bank.specs.Places.{ahead};
 
 use bank::{DatabaseBank, ReplicaBank};
-use replica::{Database, Fault, Replica};
+use pronto::SERVERS;
+use replica::{CELLS, Database, Fault, Replica};
 use statement::Statement;
-
-/// The most databases that an ensemble uses.
-const MOST: u64 = 8;
 
 /// No database.
 #[derive(Drop)]
@@ -35,7 +33,11 @@ impl ReplicaBank for Nothing {
     fn clear(&mut self, _count: u64) {}
 
     fn cell(&self, _place: u64, cell: u64) -> Result<u64, Fault> {
-        if cell < 64 { Ok(0) } else { Err(Fault::NoCell) }
+        if cell < CELLS as u64 {
+            Ok(0)
+        } else {
+            Err(Fault::NoCell)
+        }
     }
 
     fn mark(&self, _place: u64) -> u64 {
@@ -80,8 +82,7 @@ impl<D: Replica, K: ReplicaBank> ReplicaBank for Pair<D, K> {
     ghost size = { K.ReplicaBank.size + 1 };
 
     fn count(&self) -> u64 {
-        let others = self.rest.count();
-        if others < MOST { others + 1 } else { MOST }
+        SERVERS.min(self.rest.count().saturating_add(1))
     }
 
     fn clear(&mut self, count: u64) {

@@ -3,6 +3,12 @@ use crate::refusals::Refusal;
 use journal::Judgement;
 use statement::Operation;
 
+/// The most servers of an ensemble, numbered from 1.
+pub const SERVERS: u64 = 8;
+
+/// Clients are numbered from 0 to this.
+pub const LAST_CLIENT: u8 = 15;
+
 /// Which transaction an act is about: a client's job at a server.
 #[derive(Clone, Copy)]
 pub struct TransactionId {

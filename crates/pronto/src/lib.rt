@@ -6,7 +6,7 @@ pub mod faults;
 pub mod law;
 pub mod refusals;
 
-pub use acts::{Act, Answer, Entry, TransactionId};
+pub use acts::{Act, Answer, Entry, LAST_CLIENT, SERVERS, TransactionId};
 pub use faults::ServerFault;
 pub use law::{an_afternoon, law_holds};
 pub use refusals::Refusal;
