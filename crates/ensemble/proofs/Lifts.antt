@@ -7,6 +7,9 @@ use Rattle.replica.specs.Meanings.{Meaning, upd}
 use Rattle.replica.proofs.Updates.{upd_same, upd_other}
 use Rattle.message.specs.Messages.{Msg}
 use Rattle.broadcast.specs.Bags.{nth}
+use Rattle.broadcast.specs.declared.broadcasts.Broadcast as cast
+use Rattle.bank.specs.declared.banks.ReplicaBank as replicas
+use Rattle.bank.specs.declared.banks.DatabaseBank as databases
 use Rattle.pronto.specs.Servers.{Site, new_site}
 use Rattle.pronto.specs.States.{State, no_server, with_servers, at_server, At}
 use Rattle.pronto.specs.declared.faults.ServerFault.{ServerFault}
@@ -14,7 +17,8 @@ use Rattle.pronto.specs.declared.refusals.Refusal.TheVariants as refusal
 use Rattle.server.specs.declared.servers.Server.{Server}
 use Rattle.server.specs.Shown.{shown}
 use Rattle.server.specs.Acting.{Settled}
-use Rattle.ensemble.specs.Whole.{shown_or, site_at, whole, Place, passed}
+use Rattle.ensemble.specs.declared.ensembles.Ensemble.{Ensemble}
+use Rattle.ensemble.specs.Whole.{shown_or, site_at, whole, state, Place, passed}
 
 pub upd_self : {X : Type 0} (f : ℕ → X) (i : ℕ) → upd f i (f i) ≡ f
 upd_self f i = fun_ext (λ j. elim (ℕ_discrete j i) [ yes e ↦ ap (upd f i (f i)) e ∙ upd_same f i (f i) ∙ ap f (sym e) | no n ↦ upd_other f i (f i) j n ])
@@ -125,19 +129,18 @@ module _ (log waiting : List Msg) (capacity n size : ℕ) (units : ℕ → ℕ �
           let G : ℕ → Type 0 = λ q. At (why q) (Right q) (done q) S i (passed i r) (whole log waiting capacity n size units sent (set vs p w) ns) in
           subst G back (acts_here r told)
 
--- the same, of the server that was taken out and put back
-module _ (log waiting : List Msg) (capacity n size : ℕ) (units : ℕ → ℕ → ℕ) (sent : ℕ) (vs : List Server) (ms : ℕ → Meaning) (i p : ℕ) (v : Server) (is : v ≡ get_or vs p v)
-    (place : Place (whole log waiting capacity n size units sent vs ms) i (Ok p)) (eight : length vs ≡ 8) where
-  pub site_got : site_at n vs ms i ≡ shown v (ms p)
-  site_got = site_of log waiting capacity n size units sent vs ms i p v place eight ∙ ap (λ x. shown x (ms p)) (sym is)
+-- the same, of an ensemble
+module _ {B K : Type 0} (b : cast.Ghosts B) (k : replicas.Ghosts K) (u : databases.Ghosts K) (e : Ensemble B K) (i p : ℕ) (d : Server) (place : Place (state b k u e) i (Ok p)) (eight : length e.servers ≡ 8) where
+  pub site_there : site_at e.count.count e.servers (k.meanings e.bank) i ≡ shown (get_or e.servers p d) (k.meanings e.bank p)
+  site_there = site_of (b.log e.broadcast) (b.waiting e.broadcast) (b.capacity e.broadcast) e.count.count k.size u.units e.sent e.servers (k.meanings e.bank) i p d place eight
 
-  pub acts_put : {T : Type 0} (why : ℕ → Site → Option ServerFault) (Right : ℕ → Site → T → Type 0) (done : ℕ → Site → Site) (w : Server) (ws : List Server) (ns : ℕ → Meaning) → ws ≡ set vs p w →
-      (r : Result T ServerFault) → Settled r (why p) (Right p) (done p) p v ms w ns →
-      At (why (i - 1)) (Right (i - 1)) (done (i - 1)) (whole log waiting capacity n size units sent vs ms) i (passed i r) (whole log waiting capacity n size units sent ws ns)
-  acts_put why Right done w ws ns put r told =
-      let before : Server → Type 0 = λ x. Settled r (why p) (Right p) (done p) p x ms w ns in
-      let after : List Server → Type 0 = λ x. At (why (i - 1)) (Right (i - 1)) (done (i - 1)) (whole log waiting capacity n size units sent vs ms) i (passed i r) (whole log waiting capacity n size units sent x ns) in
-      subst after (sym put) (acts log waiting capacity n size units sent vs ms i p v place eight why Right done w ns r (subst before is told))
+  -- an act at the server there, which leaves this server and this bank
+  pub acted : {T : Type 0} (why : ℕ → Site → Option ServerFault) (Right : ℕ → Site → T → Type 0) (done : ℕ → Site → Site) (w : Server) (bank : K) (r : Result T ServerFault) →
+      Settled r (why p) (Right p) (done p) p (get_or e.servers p d) (k.meanings e.bank) w (k.meanings bank) →
+      At (why (i - 1)) (Right (i - 1)) (done (i - 1)) (state b k u e) i (passed i r)
+      (whole (b.log e.broadcast) (b.waiting e.broadcast) (b.capacity e.broadcast) e.count.count k.size u.units e.sent (set e.servers p w) (k.meanings bank))
+  acted why Right done w bank =
+      acts (b.log e.broadcast) (b.waiting e.broadcast) (b.capacity e.broadcast) e.count.count k.size u.units e.sent e.servers (k.meanings e.bank) i p d place eight why Right done w (k.meanings bank)
 
 -- a number that is no server's shows a new server
 pub nobody_there : (n : ℕ) (vs : List Server) (ms : ℕ → Meaning) (i : ℕ) → (eqb i 0 || ltb n i) ≡ true → site_at n vs ms i ≡ new_site

@@ -1,5 +1,5 @@
 -- Acts that send a message: why one is refused, and the whole after an offer.
-use Rattle.std.proofs.Common.{◌≡◌, ℕ, ◌+◌, ◌<◌, ◌≤◌, true, false, List, length, Some, None, Ok, Err, Option, Result, sym, ap, ◌∙◌, subst, arith}
+use Rattle.std.proofs.Common.{◌≡◌, ℕ, ◌+◌, ◌<◌, ◌≤◌, Bool, true, false, cond, List, length, Some, None, Ok, Err, Option, Result, sym, refl, ap, ◌∙◌, subst, arith}
 use Rattle.std.proofs.lemmas.Bool.{cond-true, cond-false, le-leb, lt-leb}
 use Rattle.message.specs.Messages.{Msg}
 use Rattle.pronto.specs.Servers.{Site}
@@ -10,6 +10,7 @@ use Rattle.pronto.specs.declared.refusals.Refusal.{Refusal}
 use Rattle.pronto.specs.declared.refusals.Refusal.TheVariants as refusal
 use Rattle.server.specs.Looking.{Looks}
 use Rattle.ensemble.specs.Whole.{passed}
+use Rattle.ensemble.specs.Asking.{if_server}
 
 -- what a server answered when it looked, from what was passed up
 module _ {T : Type 0} (i : ℕ) (why : Option ServerFault) (Right : T → Type 0) where
@@ -20,6 +21,14 @@ module _ {T : Type 0} (i : ℕ) (why : Option ServerFault) (Right : T → Type 0
   pub looked_found : (r : Result T ServerFault) (x : T) → Looks r why Right → Ok x ≡ passed i r → (why ≡ None) × Right x
   looked_found (Ok y) x look h = (look.0, let e : y ≡ x = cc in subst Right e look.1)
   looked_found (Err f) x look h = let z : ◌≡◌ {A = ℕ} 0 1 = cc in absurd (omega arith)
+
+-- a server that was found exists
+pub server_known : (s : State) (i : ℕ) → if_server s i None ≡ None → no_server s i ≡ false
+server_known s i told = by (no_server s i) told
+  where
+    by : (b : Bool) → cond b (Some refusal.NoServer) None ≡ None → b ≡ false
+    by true h = let z : ◌≡◌ {A = ℕ} 0 1 = cc in absurd (omega arith)
+    by false h = refl
 
 module _ (s : State) (i : ℕ) (why : Site → Option ServerFault) where
   pub sends_nobody : (e : Refusal) → no_server s i ≡ true → e ≡ refusal.NoServer → unless_full s i (why_at s i why) ≡ Some e
@@ -44,8 +53,14 @@ module _ (s : State) (log' waiting' : List Msg) (capacity' : ℕ) (l : log' ≡ 
   state_now log waiting capacity sent =
       record { log = log; waiting = waiting; capacity = capacity; count = s.count; databases = s.databases; units = s.units; sent = sent; servers = s.servers; spare = s.spare }
 
-  pub offered : (n : ℕ) → state_now log' waiting' capacity' n ≡ with_messages s s.log waiting' n
+  offered : (n : ℕ) → state_now log' waiting' capacity' n ≡ with_messages s s.log waiting' n
   offered n = ap (λ x. state_now x waiting' capacity' n) l ∙ ap (λ x. state_now s.log waiting' x n) k
 
-  pub not_offered : waiting' ≡ s.waiting → state_now log' waiting' capacity' s.sent ≡ s
+  not_offered : waiting' ≡ s.waiting → state_now log' waiting' capacity' s.sent ≡ s
   not_offered w = offered s.sent ∙ ap (λ x. state_now s.log x s.capacity s.sent) w
+
+  pub sent_now : (n m : ℕ) → n ≡ m → state_now log' waiting' capacity' n ≡ with_messages s s.log waiting' m
+  sent_now n m h = ap (state_now log' waiting' capacity') h ∙ offered m
+
+  pub not_sent : (n : ℕ) → waiting' ≡ s.waiting → n ≡ s.sent → state_now log' waiting' capacity' n ≡ s
+  not_sent n w h = ap (state_now log' waiting' capacity') h ∙ not_offered w

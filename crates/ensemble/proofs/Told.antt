@@ -1,9 +1,13 @@
 -- Questions, from what the code read at the server's place; and a new ensemble.
-use Rattle.std.proofs.Common.{◌≡◌, ℕ, zero, suc, ◌+◌, ◌-◌, ◌<◌, ◌≤◌, Bool, true, false, cond, ◌||◌, eqb, ltb, List, [], replicate, Some, None, Option, refl, ap, ◌∙◌, arith, ltb-false}
+use Rattle.std.proofs.Common.{◌≡◌, ℕ, zero, suc, ◌+◌, ◌-◌, ◌<◌, ◌≤◌, Bool, true, false, cond, ◌||◌, eqb, ltb, List, [], replicate, Some, None, Option, Ok, Err, Result, sym, refl, ap, ◌∙◌, arith, ltb-false}
 use mathlib.Core.Path.{fun_ext}
 use Rattle.std.proofs.lemmas.Bool.{cond-true, cond-false, lt-ltb, le-ltb, true≢false}
 use Rattle.replica.specs.Meanings.{Meaning}
 use Rattle.replica.specs.Calls.{cleared}
+use Rattle.std.specs.Option.{ok_or}
+use Rattle.std.specs.Result.{result_ok}
+use Rattle.replica.specs.Outcomes.{Shown}
+use Rattle.replica.specs.declared.faults.Fault.{Fault}
 use Rattle.replica.specs.declared.faults.Fault.TheVariants.{NoCell}
 use Rattle.replica.specs.Refusals.{cell_refusal}
 use Rattle.message.specs.Messages.{Msg}
@@ -11,12 +15,16 @@ use Rattle.broadcast.specs.Bags.{nth}
 use Rattle.bank.specs.Places.{cleared_below}
 use Rattle.pronto.specs.Servers.{Site, new_site, with_db}
 use Rattle.pronto.specs.States.{State, no_server, new_state}
+use Rattle.pronto.specs.Refusing.{find}
+use Rattle.pronto.specs.declared.faults.ServerFault.TheVariants as fault
 use Rattle.pronto.specs.declared.refusals.Refusal.{Refusal}
 use Rattle.pronto.specs.declared.refusals.Refusal.TheVariants as refusal
 use Rattle.server.specs.declared.servers.Server.{Server}
+use Rattle.server.specs.declared.states.State as code
+use Rattle.server.specs.Looking.{state_told, state_found}
 use Rattle.server.specs.Shown.{shown}
 use Rattle.ensemble.specs.Whole.{shown_or, site_at, whole}
-use Rattle.ensemble.specs.Asking.{if_server}
+use Rattle.ensemble.specs.Asking.{if_server, if_told, TellsCell, TellsTransaction}
 
 -- a server that exists is told of
 pub known_server : (s : State) (i : ℕ) (later : Option Refusal) → no_server s i ≡ false → if_server s i later ≡ later
@@ -84,3 +92,28 @@ cell_told c e told = by (ltb c 64) told
     by : (b : Bool) → cond b None (Some NoCell) ≡ None → cond b None (Some e) ≡ None
     by true h = refl
     by false h = let z : ◌≡◌ {A = ℕ} 0 1 = cc in absurd (omega arith)
+
+-- a cell as the bank told it, or that there is none
+pub told_cell : (s : State) (i c x : ℕ) (r : Result ℕ Fault) → no_server s i ≡ false → Shown r (cell_refusal c) x → x ≡ (s.servers i).db.cells c → TellsCell s i c (ok_or (result_ok r) (refusal.Server i fault.NoCell))
+told_cell s i c x (Ok v) known told at =
+    (known_server s i (cond (ltb c 64) None (Some (refusal.Server i fault.NoCell))) known ∙ cell_told c (refusal.Server i fault.NoCell) told.0, told.1 ∙ at)
+told_cell s i c x (Err f) known told at = known_server s i (cond (ltb c 64) None (Some (refusal.Server i fault.NoCell))) known ∙ by (ltb c 64) told
+  where
+    by : (b : Bool) → cond b None (Some NoCell) ≡ Some f → cond b None (Some (refusal.Server i fault.NoCell)) ≡ Some (refusal.Server i fault.NoCell)
+    by true h = let z : ◌≡◌ {A = ℕ} 0 1 = cc in absurd (omega arith)
+    by false h = refl
+
+-- a transaction as its server told it, or that there is none
+pub told_state : (s : State) (i k j : ℕ) (o : Option code.State) → if_server s i None ≡ None → k ≤ 15 → state_told o ≡ state_found (find (s.servers i) k j) →
+    TellsTransaction s i k j (ok_or o (refusal.Server i fault.NoTransaction))
+told_state s i k j o asked client same = by o same
+  where
+    later : Option Refusal
+    later = if_told (state_found (find (s.servers i) k j)) (Some (refusal.Server i fault.NoTransaction))
+
+    reached : if_server s i (cond (ltb 15 k) (Some (refusal.Server i fault.NoClient)) later) ≡ later
+    reached = told_server s i (cond (ltb 15 k) (Some (refusal.Server i fault.NoClient)) later) asked ∙ cond-false (ltb 15 k) (Some (refusal.Server i fault.NoClient)) later (le-ltb 15 k client)
+
+    by : (o : Option code.State) → state_told o ≡ state_found (find (s.servers i) k j) → TellsTransaction s i k j (ok_or o (refusal.Server i fault.NoTransaction))
+    by None same = reached ∙ ap (λ x. if_told x (Some (refusal.Server i fault.NoTransaction))) (sym same)
+    by (Some v) same = (reached ∙ ap (λ x. if_told x (Some (refusal.Server i fault.NoTransaction))) (sym same), same)

@@ -30,12 +30,8 @@ abbrev pub Stands : Site → Server → Type 0
 Stands u v = (v.running ≡ u.running) × (v.epoch ≡ u.epoch) × (v.delivered ≡ u.delivered) × (shown v u.db ≡ u)
 
 -- The server of a number.
-abbrev pub Asked : State → ℕ → Result Server Refusal → Type 0
-Asked s i r = Tells r (if_server s i None) (Stands (s.servers i))
-
--- The place of its database.
-abbrev pub Home : State → (ℕ → Meaning) → ℕ → Result ℕ Refusal → Type 0
-Home s ms i r = Tells r (if_server s i None) (λ p. ms p ≡ (s.servers i).db)
+abbrev pub Asked : State → ℕ → Result (Bor Server) Refusal → Type 0
+Asked s i r = Tells r (if_server s i None) (λ v. Stands (s.servers i) v.now)
 
 abbrev pub TellsServer : {T : Type 0} → State → ℕ → (Site → T) → Result T Refusal → Type 0
 TellsServer s i f r = Tells r (if_server s i None) (λ x. x ≡ f (s.servers i))

@@ -1,3 +1,4 @@
 pub mod Whole
 pub mod Making
 pub mod Asking
+pub mod Sending

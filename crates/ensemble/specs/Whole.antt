@@ -1,5 +1,5 @@
 -- An ensemble of the code, as the abstract state that the acts speak of.
-use Rattle.std.specs.Prelude.{◌≡◌, ℕ, ◌+◌, ◌-◌, ◌<◌, true, false, cond, ◌||◌, List, Some, None, Ok, Err, Option, Result, ◌==◌, nat_lt, slice_index_or}
+use Rattle.std.specs.Prelude.{◌≡◌, ℕ, ◌+◌, ◌-◌, ◌<◌, true, false, cond, ◌||◌, List, Some, None, Ok, Err, Option, Result, ◌==◌, nat_lt}
 use Rattle.replica.specs.Meanings.{Meaning}
 use Rattle.message.specs.Messages.{Msg}
 use Rattle.broadcast.specs.Bags.{nth}
@@ -31,17 +31,12 @@ whole log waiting capacity n size units sent vs ms =
 module _ {B K : Type 0} (b : cast.Ghosts B) (k : replicas.Ghosts K) (d : databases.Ghosts K) where
   abbrev pub state : Ensemble B K → State
   state e =
-      whole (b.log e.broadcast) (b.waiting e.broadcast) (b.capacity e.broadcast) e.count.count k.size d.units e.sent e.servers.all (k.meanings e.bank)
+      whole (b.log e.broadcast) (b.waiting e.broadcast) (b.capacity e.broadcast) e.count.count k.size d.units e.sent e.servers (k.meanings e.bank)
 
 -- The place of a server that exists.
 abbrev pub Place : State → ℕ → Result ℕ Refusal → Type 0
 Place s i (Ok p) = (no_server s i ≡ false) × (p + 1 ≡ i) × (p < 8)
 Place s i (Err e) = (no_server s i ≡ true) × (e ≡ refusal.NoServer)
-
--- The place of a server that exists, and the server there.
-abbrev pub Finds : State → List Server → ℕ → Result (ℕ × Server) Refusal → Type 0
-Finds s vs i (Ok x) = Place s i (Ok x.0) × (x.1 ≡ slice_index_or vs x.0 x.1)
-Finds s vs i (Err e) = Place s i (Err e)
 
 -- What a server answered, a fault with the server's number.
 abbrev pub passed : {T : Type 0} → ℕ → Result T ServerFault → Result T Refusal

@@ -1,6 +1,6 @@
 //! The ensemble itself.
-use crate::places::Places;
-use server::ServerCount;
+use pronto::SERVERS;
+use server::{Server, ServerCount};
 
 pub mod acting;
 pub mod asking;
@@ -13,7 +13,9 @@ pub mod sending;
 pub struct Ensemble<B, K> {
     broadcast: B,
     bank: K,
-    servers: Places,
+    // By place. Those past the count are never used.
+    // kept: an array with a count beside, since making an ensemble allocates nothing.
+    servers: [Server; SERVERS],
     count: ServerCount,
     sent: u64,
 }

@@ -2,7 +2,6 @@
 #![tactic(auto)]
 
 pub mod ensembles;
-mod places;
 
 pub use ensembles::Ensemble;
 pub use ensembles::making::Unmade;

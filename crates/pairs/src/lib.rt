@@ -82,7 +82,7 @@ impl<D: Replica, K: ReplicaBank> ReplicaBank for Pair<D, K> {
     ghost size = { K.ReplicaBank.size + 1 };
 
     fn count(&self) -> u64 {
-        SERVERS.min(self.rest.count().saturating_add(1))
+        self.rest.count().saturating_add(1).min(SERVERS as u64)
     }
 
     fn clear(&mut self, count: u64) {

@@ -4,7 +4,7 @@ use journal::Judgement;
 use statement::Operation;
 
 /// The most servers of an ensemble, numbered from 1.
-pub const SERVERS: u64 = 8;
+pub const SERVERS: usize = 8;
 
 /// Clients are numbered from 0 to this.
 pub const LAST_CLIENT: u8 = 15;

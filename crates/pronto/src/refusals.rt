@@ -1,8 +1,10 @@
 //! Why an act on an ensemble, or a question about it, is turned down.
 ghost use Rattle.std.specs.Prelude.{◌≡◌};
 ghost use Rattle.pronto.specs.Numbers.{number_of};
+ghost use Rattle.pronto.specs.declared.refusals.Refusal.TheVariants as refusals;
 
 use crate::faults::ServerFault;
+use broadcast::{NotOrdered, NothingWaits};
 
 /// The refusals of an ensemble. A refused act changes nothing.
 #[derive(Clone, Copy, PartialEq, Eq)]
@@ -17,6 +19,22 @@ pub enum Refusal {
     NothingWaits,
     /// The position is at or past the count of ordered messages.
     NotOrdered,
+}
+
+impl From<NothingWaits> for Refusal {
+    ghost from_gives = { λ _ told. told ≡ refusals.NothingWaits };
+
+    fn from(_waits: NothingWaits) -> Refusal {
+        Refusal::NothingWaits
+    }
+}
+
+impl From<NotOrdered> for Refusal {
+    ghost from_gives = { λ _ told. told ≡ refusals.NotOrdered };
+
+    fn from(_ordered: NotOrdered) -> Refusal {
+        Refusal::NotOrdered
+    }
 }
 
 impl Refusal {

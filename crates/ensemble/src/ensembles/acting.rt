@@ -18,20 +18,14 @@ impl<B: Broadcast, K: DatabaseBank> Ensemble<B, K> {
     pub fn begin(&mut self, id: TransactionId) -> Result<(), Refusal>
         ensures { Begin id.client id.job (state B.Broadcast K.ReplicaBank K.DatabaseBank.own self.old) id.server result (state B.Broadcast K.ReplicaBank K.DatabaseBank.own self.new) }
     {
-        let Ok(found) = self.find(id.server) else {
-            return Err(Refusal::NoServer);
-        };
-        let (place, mut acting) = found;
+        let place = self.place(id.server)?;
         let outcome = begin(
-            &mut acting,
+            &mut self.servers[place],
             &mut self.bank,
             place as u64,
             self.count,
-            id.server,
-            id.client,
-            id.job,
+            id,
         );
-        self.servers.put(place, acting);
         at_server(id.server, outcome)
     }
 
@@ -46,20 +40,15 @@ impl<B: Broadcast, K: DatabaseBank> Ensemble<B, K> {
     ) -> Result<u64, Refusal>
         ensures { Run id.client id.job cell operation (state B.Broadcast K.ReplicaBank K.DatabaseBank.own self.old) id.server result (state B.Broadcast K.ReplicaBank K.DatabaseBank.own self.new) }
     {
-        let Ok(found) = self.find(id.server) else {
-            return Err(Refusal::NoServer);
-        };
-        let (place, mut acting) = found;
+        let place = self.place(id.server)?;
         let outcome = run(
-            &mut acting,
+            &mut self.servers[place],
             &mut self.bank,
             place as u64,
-            id.client,
-            id.job,
+            id,
             cell,
             operation,
         );
-        self.servers.put(place, acting);
         at_server(id.server, outcome)
     }
 
@@ -69,12 +58,8 @@ impl<B: Broadcast, K: DatabaseBank> Ensemble<B, K> {
     pub fn abort(&mut self, id: TransactionId) -> Result<(), Refusal>
         ensures { Abort id.client id.job (state B.Broadcast K.ReplicaBank K.DatabaseBank.own self.old) id.server result (state B.Broadcast K.ReplicaBank K.DatabaseBank.own self.new) }
     {
-        let Ok(found) = self.find(id.server) else {
-            return Err(Refusal::NoServer);
-        };
-        let (place, mut acting) = found;
-        let outcome = abort(&mut acting, &mut self.bank, place as u64, id.client, id.job);
-        self.servers.put(place, acting);
+        let place = self.place(id.server)?;
+        let outcome = abort(&mut self.servers[place], &mut self.bank, place as u64, id);
         at_server(id.server, outcome)
     }
 
@@ -84,18 +69,14 @@ impl<B: Broadcast, K: DatabaseBank> Ensemble<B, K> {
     pub fn deliver(&mut self, server: u8) -> Result<(u64, Judgement), Refusal>
         ensures { Deliver (state B.Broadcast K.ReplicaBank K.DatabaseBank.own self.old) server result (state B.Broadcast K.ReplicaBank K.DatabaseBank.own self.new) }
     {
-        let Ok(found) = self.find(server) else {
-            return Err(Refusal::NoServer);
-        };
-        let (place, mut acting) = found;
+        let place = self.place(server)?;
         let outcome = deliver(
-            &mut acting,
+            &mut self.servers[place],
             &mut self.bank,
             &self.broadcast,
             place as u64,
             server,
         );
-        self.servers.put(place, acting);
         at_server(server, outcome)
     }
 
@@ -105,12 +86,8 @@ impl<B: Broadcast, K: DatabaseBank> Ensemble<B, K> {
     pub fn stop(&mut self, server: u8) -> Result<(), Refusal>
         ensures { Stop (state B.Broadcast K.ReplicaBank K.DatabaseBank.own self.old) server result (state B.Broadcast K.ReplicaBank K.DatabaseBank.own self.new) }
     {
-        let Ok(found) = self.find(server) else {
-            return Err(Refusal::NoServer);
-        };
-        let (place, mut acting) = found;
-        let outcome = stop(&mut acting, &mut self.bank, place as u64);
-        self.servers.put(place, acting);
+        let place = self.place(server)?;
+        let outcome = stop(&mut self.servers[place], &mut self.bank, place as u64);
         at_server(server, outcome)
     }
 
@@ -120,13 +97,9 @@ impl<B: Broadcast, K: DatabaseBank> Ensemble<B, K> {
     pub fn start(&mut self, server: u8) -> Result<(), Refusal>
         ensures { Start (state B.Broadcast K.ReplicaBank K.DatabaseBank.own self.old) server result (state B.Broadcast K.ReplicaBank K.DatabaseBank.own self.new) }
     {
-        let Ok(found) = self.find(server) else {
-            return Err(Refusal::NoServer);
-        };
-        let (place, mut acting) = found;
+        let place = self.place(server)?;
         let bar = self.broadcast.ordered_count();
-        let outcome = start(&mut acting, bar);
-        self.servers.put(place, acting);
+        let outcome = start(&mut self.servers[place], bar);
         at_server(server, outcome)
     }
 }

@@ -7,11 +7,8 @@ use super::Ensemble;
 use bank::{DatabaseBank, ReplicaBank};
 use broadcast::Broadcast;
 use message::Message;
-use pronto::{Refusal, ServerFault, TransactionId};
+use pronto::{LAST_CLIENT, Refusal, ServerFault, TransactionId};
 use server::State;
-
-/// Clients are 0 to 15.
-const LAST_CLIENT: u8 = 15;
 
 impl<B: Broadcast, K: DatabaseBank> Ensemble<B, K> {
     /// Whether a server runs.
@@ -20,8 +17,7 @@ impl<B: Broadcast, K: DatabaseBank> Ensemble<B, K> {
     pub fn running(&self, server: u8) -> Result<bool, Refusal>
         ensures { TellsServer (state B.Broadcast K.ReplicaBank K.DatabaseBank.own self.now) server (λ v. v.running) result }
     {
-        let asked = self.asked(server)?;
-        Ok(asked.running())
+        self.asked(server).map(|asked| asked.running())
     }
 
     /// A server's epoch.
@@ -30,8 +26,7 @@ impl<B: Broadcast, K: DatabaseBank> Ensemble<B, K> {
     pub fn epoch(&self, server: u8) -> Result<u64, Refusal>
         ensures { TellsServer (state B.Broadcast K.ReplicaBank K.DatabaseBank.own self.now) server (λ v. v.epoch) result }
     {
-        let asked = self.asked(server)?;
-        Ok(asked.epoch())
+        self.asked(server).map(|asked| asked.epoch())
     }
 
     /// How many messages are delivered at a server.
@@ -40,8 +35,7 @@ impl<B: Broadcast, K: DatabaseBank> Ensemble<B, K> {
     pub fn delivered(&self, server: u8) -> Result<u64, Refusal>
         ensures { TellsServer (state B.Broadcast K.ReplicaBank K.DatabaseBank.own self.now) server (λ v. v.delivered) result }
     {
-        let asked = self.asked(server)?;
-        Ok(asked.delivered())
+        self.asked(server).map(|asked| asked.delivered())
     }
 
     /// The mark of a server's database.
@@ -50,8 +44,8 @@ impl<B: Broadcast, K: DatabaseBank> Ensemble<B, K> {
     pub fn mark(&self, server: u8) -> Result<u64, Refusal>
         ensures { TellsServer (state B.Broadcast K.ReplicaBank K.DatabaseBank.own self.now) server (λ v. v.db.mark) result }
     {
-        let place = self.home(server)?;
-        Ok(self.bank.mark(place))
+        let place = self.place(server)?;
+        Ok(self.bank.mark(place as u64))
     }
 
     /// A committed cell of a server's database.
@@ -61,10 +55,10 @@ impl<B: Broadcast, K: DatabaseBank> Ensemble<B, K> {
         ensures { TellsCell (state B.Broadcast K.ReplicaBank K.DatabaseBank.own self.now) server cell result }
     {
         let place = self.place(server)?;
-        match self.bank.cell(place as u64, cell) {
-            Ok(value) => Ok(value),
-            Err(_) => Err(Refusal::Server(server, ServerFault::NoCell)),
-        }
+        self.bank
+            .cell(place as u64, cell)
+            .ok()
+            .ok_or(Refusal::Server(server, ServerFault::NoCell))
     }
 
     /// How far a transaction is.
@@ -77,10 +71,9 @@ impl<B: Broadcast, K: DatabaseBank> Ensemble<B, K> {
         if id.client > LAST_CLIENT {
             return Err(Refusal::Server(id.server, ServerFault::NoClient));
         }
-        let Some(found) = asked.transaction_state(id.client, id.job) else {
-            return Err(Refusal::Server(id.server, ServerFault::NoTransaction));
-        };
-        Ok(found)
+        asked
+            .transaction_state(id)
+            .ok_or(Refusal::Server(id.server, ServerFault::NoTransaction))
     }
 
     /// How many messages are ordered.
@@ -110,9 +103,6 @@ impl<B: Broadcast, K: DatabaseBank> Ensemble<B, K> {
     pub fn message(&self, position: u64) -> Result<&Message, Refusal>
         ensures { TellsMessage (state B.Broadcast K.ReplicaBank K.DatabaseBank.own self.now) position result }
     {
-        match self.broadcast.message_at(position) {
-            Ok(message) => Ok(message),
-            Err(_) => Err(Refusal::NotOrdered),
-        }
+        Ok(self.broadcast.message_at(position)?)
     }
 }

@@ -1,7 +1,7 @@
 //! Finding a server, and passing its faults up.
 ghost use Rattle.std.specs.Prelude.{◌≡◌};
-ghost use Rattle.ensemble.specs.Whole.{state, Place, Finds, passed};
-ghost use Rattle.ensemble.specs.Asking.{Asked, Home};
+ghost use Rattle.ensemble.specs.Whole.{state, Place, passed};
+ghost use Rattle.ensemble.specs.Asking.{Asked};
 
 use super::Ensemble;
 use bank::{DatabaseBank, ReplicaBank};
@@ -13,10 +13,7 @@ use server::Server;
 pub(crate) fn at_server<T>(server: u8, outcome: Result<T, ServerFault>) -> Result<T, Refusal>
     ensures { result ≡ passed server outcome }
 {
-    match outcome {
-        Ok(x) => Ok(x),
-        Err(fault) => Err(Refusal::Server(server, fault)),
-    }
+    outcome.map_err(|fault| Refusal::Server(server, fault))
 }
 
 impl<B: Broadcast, K: DatabaseBank> Ensemble<B, K> {
@@ -32,40 +29,13 @@ impl<B: Broadcast, K: DatabaseBank> Ensemble<B, K> {
         Ok(usize::from(server) - 1)
     }
 
-    /// The place of a server, and the server there.
-    ///
-    /// Refused where there is no such server.
-    pub(crate) fn find(&self, server: u8) -> Result<(usize, Server), Refusal>
-        ensures { Finds (state B.Broadcast K.ReplicaBank K.DatabaseBank.own self.now) self.now.servers.all server result }
-    {
-        let Ok(place) = self.place(server) else {
-            return Err(Refusal::NoServer);
-        };
-        Ok((place, self.servers.get(place)))
-    }
-
     /// The server of a number.
     ///
     /// Refused where there is no such server.
-    pub(crate) fn asked(&self, server: u8) -> Result<Server, Refusal>
+    pub(crate) fn asked(&self, server: u8) -> Result<&Server, Refusal>
         ensures { Asked (state B.Broadcast K.ReplicaBank K.DatabaseBank.own self.now) server result }
     {
-        let Ok(found) = self.find(server) else {
-            return Err(Refusal::NoServer);
-        };
-        let (_, asked) = found;
-        Ok(asked)
-    }
-
-    /// The place of a server's database in the bank.
-    ///
-    /// Refused where there is no such server.
-    pub(crate) fn home(&self, server: u8) -> Result<u64, Refusal>
-        ensures { Home (state B.Broadcast K.ReplicaBank K.DatabaseBank.own self.now) (K.ReplicaBank.meanings self.now.bank) server result }
-    {
-        let Ok(place) = self.place(server) else {
-            return Err(Refusal::NoServer);
-        };
-        Ok(place as u64)
+        let place = self.place(server)?;
+        Ok(&self.servers[place])
     }
 }

@@ -3,9 +3,9 @@ ghost use Rattle.std.specs.Prelude.{◌≡◌};
 ghost use Rattle.ensemble.specs.Making.{Makes};
 
 use super::Ensemble;
-use crate::places::Places;
 use bank::{DatabaseBank, ReplicaBank};
 use broadcast::Broadcast;
+use pronto::SERVERS;
 use server::{Server, ServerCount};
 
 /// What a making that is refused, by number 19, hands back: nothing of it was used.
@@ -34,7 +34,7 @@ impl<B: Broadcast, K: DatabaseBank> Ensemble<B, K> {
         Ok(Ensemble {
             broadcast,
             bank,
-            servers: Places::new(Server::new()),
+            servers: [Server::new(); SERVERS],
             count,
             sent: 0,
         })
@@ -45,11 +45,7 @@ impl<B: Broadcast, K: DatabaseBank> Ensemble<B, K> {
         ensures { (result.0 ≡ self.broadcast) × (result.1 ≡ self.bank) }
     {
         let Ensemble {
-            broadcast,
-            bank,
-            servers: _,
-            count: _,
-            sent: _,
+            broadcast, bank, ..
         } = self;
         (broadcast, bank)
     }

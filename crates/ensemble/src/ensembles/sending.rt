@@ -1,6 +1,9 @@
 //! The acts that concern the broadcast: commit, suspect and order.
+ghost use Rattle.std.specs.Prelude.{◌≡◌};
+ghost use Rattle.message.specs.Messages.{msg_of};
 ghost use Rattle.pronto.specs.Acts.{Commit, Suspect, Order};
 ghost use Rattle.ensemble.specs.Whole.{state};
+ghost use Rattle.ensemble.specs.Sending.{Sends};
 
 use super::Ensemble;
 use super::finding::at_server;
@@ -9,6 +12,26 @@ use broadcast::Broadcast;
 use message::Message;
 use pronto::{Refusal, TransactionId};
 
+/// Offers a message of a server, and counts it as sent.
+///
+/// Refused where the broadcast is full.
+fn send<B: Broadcast>(
+    broadcast: &mut B,
+    sent: &mut u64,
+    server: u8,
+    message: Message,
+) -> Result<(), Refusal>
+    ensures log { B.Broadcast.log broadcast.new ≡ B.Broadcast.log broadcast.old }
+    ensures capacity { B.Broadcast.capacity broadcast.new ≡ B.Broadcast.capacity broadcast.old }
+    ensures sends { Sends server (msg_of message) (B.Broadcast.capacity broadcast.old) (B.Broadcast.log broadcast.old) (B.Broadcast.waiting broadcast.old) (B.Broadcast.waiting broadcast.new) sent.old sent.new result }
+{
+    broadcast
+        .offer(message)
+        .map_err(|_| Refusal::Full(server))?;
+    *sent = sent.wrapping_add(1);
+    Ok(())
+}
+
 impl<B: Broadcast, K: DatabaseBank> Ensemble<B, K> {
     /// Offers a transaction's message to the broadcast; the transaction is committing.
     ///
@@ -16,20 +39,15 @@ impl<B: Broadcast, K: DatabaseBank> Ensemble<B, K> {
     pub fn commit(&mut self, id: TransactionId) -> Result<(), Refusal>
         ensures { Commit id.client id.job (state B.Broadcast K.ReplicaBank K.DatabaseBank.own self.old) id.server result (state B.Broadcast K.ReplicaBank K.DatabaseBank.own self.new) }
     {
-        let Ok(found) = self.find(id.server) else {
-            return Err(Refusal::NoServer);
-        };
-        let (place, mut server) = found;
-        let message = at_server(
+        let place = self.place(id.server)?;
+        let message = at_server(id.server, self.servers[place].commit_message(id))?;
+        send(
+            &mut self.broadcast,
+            &mut self.sent,
             id.server,
-            server.commit_message(id.server, id.client, id.job),
+            Message::Transaction(message),
         )?;
-        let Ok(_) = self.broadcast.offer(Message::Transaction(message)) else {
-            return Err(Refusal::Full(id.server));
-        };
-        server.send_off(id.client, id.job);
-        self.servers.put(place, server);
-        self.sent = self.sent.wrapping_add(1);
+        self.servers[place].send_off(id);
         Ok(())
     }
 
@@ -39,15 +57,14 @@ impl<B: Broadcast, K: DatabaseBank> Ensemble<B, K> {
     pub fn suspect(&mut self, server: u8) -> Result<(), Refusal>
         ensures { Suspect (state B.Broadcast K.ReplicaBank K.DatabaseBank.own self.old) server result (state B.Broadcast K.ReplicaBank K.DatabaseBank.own self.new) }
     {
-        let Ok(found) = self.find(server) else {
-            return Err(Refusal::NoServer);
-        };
-        let (_, asked) = found;
+        let asked = self.asked(server)?;
         let message = at_server(server, asked.epoch_message(server))?;
-        let Ok(_) = self.broadcast.offer(Message::Epoch(message)) else {
-            return Err(Refusal::Full(server));
-        };
-        self.sent = self.sent.wrapping_add(1);
+        send(
+            &mut self.broadcast,
+            &mut self.sent,
+            server,
+            Message::Epoch(message),
+        )?;
         Ok(())
     }
 
@@ -57,9 +74,6 @@ impl<B: Broadcast, K: DatabaseBank> Ensemble<B, K> {
     pub fn order(&mut self) -> Result<u64, Refusal>
         ensures { Order (state B.Broadcast K.ReplicaBank K.DatabaseBank.own self.old) result (state B.Broadcast K.ReplicaBank K.DatabaseBank.own self.new) }
     {
-        let Ok(position) = self.broadcast.order() else {
-            return Err(Refusal::NothingWaits);
-        };
-        Ok(position)
+        Ok(self.broadcast.order()?)
     }
 }

@@ -1,4 +1,4 @@
-use Rattle.std.proofs.Common.{◌≤◌, ap, ◌∙◌, arith}
+use Rattle.std.proofs.Common.{◌≤◌, replicate, ap, ◌∙◌, arith}
 use Rattle.ensemble.specs.Whole.{whole}
 use Rattle.ensemble.proofs.Told.{new_whole}
 use Rattle.ensemble.proofs.ensembles.Ensemble.new.Goals as goal
@@ -11,8 +11,7 @@ returns g c =
     let b = c.clear.new.self in
     let k = c.clear-2.new.self in (
       (counted.0, counted.1, enough),
-      ap (λ x. whole (g.B.Broadcast.log b) (g.B.Broadcast.waiting b) (g.B.Broadcast.capacity b) x g.K.ReplicaBank.size g.K.DatabaseBank.units 0 c.new-3.result.all (g.K.ReplicaBank.meanings k)) counted.2
-          ∙ ap (λ x. whole (g.B.Broadcast.log b) (g.B.Broadcast.waiting b) (g.B.Broadcast.capacity b) n g.K.ReplicaBank.size g.K.DatabaseBank.units 0 x (g.K.ReplicaBank.meanings k)) c.new-3.ensures
+      ap (λ x. whole (g.B.Broadcast.log b) (g.B.Broadcast.waiting b) (g.B.Broadcast.capacity b) x g.K.ReplicaBank.size g.K.DatabaseBank.units 0 (replicate 8 c.new-2.result) (g.K.ReplicaBank.meanings k)) counted.2
           ∙ new_whole n counted.1 c.new-2.result (g.K.ReplicaBank.meanings c.args.bank) c.new-2.ensures
           (g.B.Broadcast.log b) (g.B.Broadcast.waiting b) (g.B.Broadcast.capacity b) (g.B.Broadcast.capacity c.args.broadcast) g.K.ReplicaBank.size g.K.DatabaseBank.units (g.K.ReplicaBank.meanings k)
           c.clear.ensures.log c.clear.ensures.waiting c.clear.ensures.capacity c.clear-2.ensures,

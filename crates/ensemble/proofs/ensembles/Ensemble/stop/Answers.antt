@@ -1,17 +1,15 @@
-use Rattle.std.proofs.Common.{◌≡◌, length}
+use Rattle.std.proofs.Common.{rules, ◌≡◌, length}
 use Rattle.pronto.specs.Servers.{stopped}
 use Rattle.pronto.specs.Refusing.{first, running_table}
 use Rattle.pronto.specs.Acts.{NothingTold}
-use Rattle.ensemble.proofs.Lifts.{acts_put}
+use Rattle.ensemble.proofs.Lifts.{acted}
 use Rattle.ensemble.proofs.ensembles.Ensemble.stop.Goals as goal
 
 pub returns : goal.returns
 returns g c =
     let a = c.args in
     let e = a.self.now in
-    let b = e.broadcast in
-    let eight : length e.servers.all ≡ 8 = e.servers.eight in
+    let eight : length e.servers ≡ 8 = search rules in
     rw c.at_server.ensures
-    (acts_put (g.B.Broadcast.log b) (g.B.Broadcast.waiting b) (g.B.Broadcast.capacity b) e.count.count g.K.ReplicaBank.size g.K.DatabaseBank.units e.sent e.servers.all (g.K.ReplicaBank.meanings e.bank)
-    a.server c.in-Ok.found.0 c.in-Ok.found.1 c.in-Ok.ensures.1 c.in-Ok.ensures.0 eight
-    {T = Unit {0}} (λ q v. first (running_table v)) (λ q. NothingTold) (λ q. stopped) c.stop-outcome.new.server c.put.new.self.all (g.K.ReplicaBank.meanings c.stop-outcome.new.bank) c.put.ensures c.stop-outcome.result c.stop-outcome.ensures)
+    (acted g.B.Broadcast g.K.ReplicaBank g.K.DatabaseBank e a.server c.in_ok-place.place c.index-self-place.result c.in_ok-place.ensures eight
+    {T = Unit {0}} (λ q v. first (running_table v)) (λ q. NothingTold) (λ q. stopped) c.stop-outcome.new.server c.stop-outcome.new.bank c.stop-outcome.result c.stop-outcome.ensures)

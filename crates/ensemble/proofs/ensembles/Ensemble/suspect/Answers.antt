@@ -1,4 +1,4 @@
-use Rattle.std.proofs.Common.{◌≡◌, ◌+◌, ◌%◌, ◌^◌, length, Some, sym, refl, ap, ◌∙◌, subst}
+use Rattle.std.proofs.Common.{rules, ◌≡◌, ◌+◌, ◌%◌, ◌^◌, length, Some, sym, refl, ap, ◌∙◌, subst}
 use Rattle.std.proofs.lemmas.Result.{err_from_is_err_and}
 use Rattle.message.specs.Messages.{Msg, epoch_change}
 use Rattle.message.specs.declared.messages.EpochChange.{EpochChange}
@@ -7,62 +7,51 @@ use Rattle.pronto.specs.Servers.{Site}
 use Rattle.pronto.specs.Refusing.{first, running_table}
 use Rattle.server.specs.Shown.{shown}
 use Rattle.ensemble.specs.Whole.{state}
-use Rattle.ensemble.proofs.Lifts.{site_got}
-use Rattle.ensemble.proofs.Sent.{looked_refused, looked_found, sends_refused, sends_full, sends_free, offered, not_offered}
+use Rattle.ensemble.proofs.Sent.{looked_refused, looked_found, sends_refused, server_known, sends_full, sends_free, sent_now, not_sent}
 use Rattle.ensemble.proofs.ensembles.Ensemble.suspect.Goals as goal
 
 pub returns-in_err-message : goal.returns-in_err-message
 returns-in_err-message g c =
     let e = c.args.self.now in
-    let b = e.broadcast in
     let s = state g.B.Broadcast g.K.ReplicaBank g.K.DatabaseBank e in
     let i = c.args.server in
-    let ms = g.K.ReplicaBank.meanings e.bank in
-    let p = c.in-Ok.found.0 in
-    let place = c.in-Ok.ensures.0 in
-    let eight : length e.servers.all ≡ 8 = e.servers.eight in
-    let v = shown c.in-Ok.found.1 (ms p) in
-    let site = site_got (g.B.Broadcast.log b) (g.B.Broadcast.waiting b) (g.B.Broadcast.capacity b) e.count.count g.K.ReplicaBank.size g.K.DatabaseBank.units e.sent e.servers.all ms i p c.in-Ok.found.1 c.in-Ok.ensures.1 place eight in
-    let told = looked_refused {T = EpochChange} i (first (running_table v)) (λ x. epoch_change x.sender x.epoch ≡ epoch_change i v.epoch) c.epoch_message.result c.in_err-message.field-0.0 (c.epoch_message.ensures (ms p)) c.in_err-message.ensures in
-    let q = err_from_is_err_and c.from_residual.result c.from_residual.ensures.1 in
-    rw (q.1, q.2) (sends_refused s i (λ (u : Site). first (running_table u)) v place.0 site told.0 told.1 ∙ ap Some (sym told.2), refl)
+    let asked = c.in_ok-asked.ensures in
+    let v = shown c.in_ok-asked.asked.now (s.servers i).db in
+    let site : s.servers i ≡ v = sym asked.1.3 in
+    let told = looked_refused {T = EpochChange} i (first (running_table v)) (λ x. epoch_change x.sender x.epoch ≡ epoch_change i v.epoch) c.epoch_message.result c.in_err-message.field-0.0 (c.epoch_message.ensures (s.servers i).db) c.in_err-message.ensures in
+    let q = err_from_is_err_and c.from_residual-in_err-message.result c.from_residual-in_err-message.ensures.1 in
+    rw (q.1, q.2) (sends_refused s i (λ (u : Site). first (running_table u)) v (server_known s i asked.0) site told.0 told.1 ∙ ap Some (sym told.2), refl)
 
-pub returns-in_default-offer : goal.returns-in_default-offer
-returns-in_default-offer g c =
+pub returns-in_err-send : goal.returns-in_err-send
+returns-in_err-send g c =
     let e = c.args.self.now in
-    let b = e.broadcast in
     let s = state g.B.Broadcast g.K.ReplicaBank g.K.DatabaseBank e in
     let i = c.args.server in
-    let ms = g.K.ReplicaBank.meanings e.bank in
-    let p = c.in-Ok.found.0 in
-    let place = c.in-Ok.ensures.0 in
-    let eight : length e.servers.all ≡ 8 = e.servers.eight in
-    let v = shown c.in-Ok.found.1 (ms p) in
-    let site = site_got (g.B.Broadcast.log b) (g.B.Broadcast.waiting b) (g.B.Broadcast.capacity b) e.count.count g.K.ReplicaBank.size g.K.DatabaseBank.units e.sent e.servers.all ms i p c.in-Ok.found.1 c.in-Ok.ensures.1 place eight in
-    let found = looked_found {T = EpochChange} i (first (running_table v)) (λ x. epoch_change x.sender x.epoch ≡ epoch_change i v.epoch) c.epoch_message.result c.in_ok-message.message (c.epoch_message.ensures (ms p)) c.in_ok-message.ensures in
-    let o = c.in_default-offer.ensures in
-    let after = c.offer.new.self in (
-      sends_full s i (λ (u : Site). first (running_table u)) v place.0 site found.0 o.waiting.0,
-      not_offered s (g.B.Broadcast.log after) (g.B.Broadcast.waiting after) (g.B.Broadcast.capacity after) o.log o.capacity o.waiting.1,
+    let asked = c.in_ok-asked.ensures in
+    let v = shown c.in_ok-asked.asked.now (s.servers i).db in
+    let site : s.servers i ≡ v = sym asked.1.3 in
+    let found = looked_found {T = EpochChange} i (first (running_table v)) (λ x. epoch_change x.sender x.epoch ≡ epoch_change i v.epoch) c.epoch_message.result c.in_ok-message.message (c.epoch_message.ensures (s.servers i).db) c.in_ok-message.ensures in
+    let o = c.in_err-send.ensures in
+    let after = c.send.new.broadcast in
+    let q = err_from_is_err_and c.from_residual-in_err-send.result c.from_residual-in_err-send.ensures.1 in
+    rw (q.1, q.2) (
+      sends_full s i (λ (u : Site). first (running_table u)) v (server_known s i asked.0) site found.0 o.sends.0 ∙ ap Some (sym o.sends.3),
+      not_sent s (g.B.Broadcast.log after) (g.B.Broadcast.waiting after) (g.B.Broadcast.capacity after) o.log o.capacity c.send.new.sent o.sends.1 o.sends.2,
     )
 
 pub returns : goal.returns
 returns g c =
     let e = c.args.self.now in
-    let b = e.broadcast in
     let s = state g.B.Broadcast g.K.ReplicaBank g.K.DatabaseBank e in
     let i = c.args.server in
-    let ms = g.K.ReplicaBank.meanings e.bank in
-    let p = c.in-Ok.found.0 in
-    let place = c.in-Ok.ensures.0 in
-    let eight : length e.servers.all ≡ 8 = e.servers.eight in
-    let v = shown c.in-Ok.found.1 (ms p) in
-    let site = site_got (g.B.Broadcast.log b) (g.B.Broadcast.waiting b) (g.B.Broadcast.capacity b) e.count.count g.K.ReplicaBank.size g.K.DatabaseBank.units e.sent e.servers.all ms i p c.in-Ok.found.1 c.in-Ok.ensures.1 place eight in
-    let found = looked_found {T = EpochChange} i (first (running_table v)) (λ x. epoch_change x.sender x.epoch ≡ epoch_change i v.epoch) c.epoch_message.result c.in_ok-message.message (c.epoch_message.ensures (ms p)) c.in_ok-message.ensures in
-    let o = c.in-Ok-offer.ensures in
-    let after = c.offer.new.self in
+    let asked = c.in_ok-asked.ensures in
+    let v = shown c.in_ok-asked.asked.now (s.servers i).db in
+    let site : s.servers i ≡ v = sym asked.1.3 in
+    let found = looked_found {T = EpochChange} i (first (running_table v)) (λ x. epoch_change x.sender x.epoch ≡ epoch_change i v.epoch) c.epoch_message.result c.in_ok-message.message (c.epoch_message.ensures (s.servers i).db) c.in_ok-message.ensures in
+    let o = c.in_ok-send.ensures in
+    let after = c.send.new.broadcast in
     let F : Msg → Type 0 = λ m. Inserted m s.waiting (g.B.Broadcast.waiting after) in (
-      sends_free s i (λ (u : Site). first (running_table u)) v place.0 site found.0 o.waiting.0,
-      subst F (found.1 ∙ ap (epoch_change i) (sym (ap (λ (u : Site). u.epoch) site))) o.waiting.1,
-      offered s (g.B.Broadcast.log after) (g.B.Broadcast.waiting after) (g.B.Broadcast.capacity after) o.log o.capacity ((s.sent + 1) % 2 ^ 64),
+      sends_free s i (λ (u : Site). first (running_table u)) v (server_known s i asked.0) site found.0 o.sends.0,
+      subst F (found.1 ∙ ap (epoch_change i) (sym (ap (λ (u : Site). u.epoch) site))) o.sends.1,
+      sent_now s (g.B.Broadcast.log after) (g.B.Broadcast.waiting after) (g.B.Broadcast.capacity after) o.log o.capacity c.send.new.sent ((s.sent + 1) % 2 ^ 64) o.sends.2,
     )
