@@ -11,15 +11,19 @@ use pronto::{Act, Answer};
 pub fn perform<B: Broadcast, K: DatabaseBank>(ensemble: &mut Ensemble<B, K>, act: Act) -> Answer
     ensures { Step (state B.Broadcast K.ReplicaBank K.DatabaseBank.own ensemble.old) act result (state B.Broadcast K.ReplicaBank K.DatabaseBank.own ensemble.new) }
 {
-    match act {
-        Act::Begin(id) => ensemble.begin(id).map_or_else(Answer::Refused, |_| Answer::Done),
-        Act::Run(id, cell, operation) => ensemble.run(id, cell, operation).map_or_else(Answer::Refused, Answer::Result),
-        Act::Commit(id) => ensemble.commit(id).map_or_else(Answer::Refused, |_| Answer::Done),
-        Act::Abort(id) => ensemble.abort(id).map_or_else(Answer::Refused, |_| Answer::Done),
-        Act::Suspect(server) => ensemble.suspect(server).map_or_else(Answer::Refused, |_| Answer::Done),
-        Act::Order => ensemble.order().map_or_else(Answer::Refused, Answer::Ordered),
-        Act::Deliver(server) => ensemble.deliver(server).map_or_else(Answer::Refused, |(position, judgement)| Answer::Delivered(position, judgement)),
-        Act::Stop(server) => ensemble.stop(server).map_or_else(Answer::Refused, |_| Answer::Done),
-        Act::Start(server) => ensemble.start(server).map_or_else(Answer::Refused, |_| Answer::Done),
-    }
+    let outcome = match act {
+        Act::Begin(id) => ensemble.begin(id).map(|_| Answer::Done),
+        Act::Run(id, cell, operation) => ensemble.run(id, cell, operation).map(Answer::Result),
+        Act::Commit(id) => ensemble.commit(id).map(|_| Answer::Done),
+        Act::Abort(id) => ensemble.abort(id).map(|_| Answer::Done),
+        Act::Suspect(server) => ensemble.suspect(server).map(|_| Answer::Done),
+        Act::Order => ensemble.order().map(Answer::Ordered),
+        Act::Deliver(server) => ensemble.deliver(server).map(|(
+            position,
+            judgement,
+        )| Answer::Delivered(position, judgement)),
+        Act::Stop(server) => ensemble.stop(server).map(|_| Answer::Done),
+        Act::Start(server) => ensemble.start(server).map(|_| Answer::Done),
+    };
+    outcome.unwrap_or_else(Answer::Refused)
 }

@@ -1,6 +1,7 @@
 //! Lists of acts.
 ghost use Rattle.std.specs.Prelude.{◌≡◌, ◌+◌, ◌≤◌, length, vec_len, vec_capacity, nat_le};
 ghost use Rattle.ensemble.specs.Whole.{state};
+ghost use Rattle.playing.specs.declared.plays.Unplayed.TheVariants.{Servers};
 ghost use Rattle.playing.specs.Plays.{Played, Plays, NewPlayed};
 
 use crate::performing::perform;
@@ -20,6 +21,14 @@ pub enum Unplayed<B, K> {
     Room(Unmade<B, K>),
     /// The number of servers is 0, above 8, or above the number of databases (number 19).
     Servers(Unmade<B, K>),
+}
+
+impl<B, K> From<Unmade<B, K>> for Unplayed<B, K> {
+    ghost from_gives = { λ unmade unplayed. unplayed ≡ Servers unmade };
+
+    fn from(unmade: Unmade<B, K>) -> Unplayed<B, K> {
+        Unplayed::Servers(unmade)
+    }
 }
 
 /// Whether the history has room left for the acts.
@@ -79,11 +88,7 @@ pub fn play_new<B: Broadcast, K: DatabaseBank>(
     if !has_room(acts, history) {
         return Err(Unplayed::Room(Unmade { broadcast, bank }));
     }
-    match Ensemble::new(broadcast, bank, servers) {
-        Ok(mut ensemble) => {
-            perform_all(&mut ensemble, acts, history);
-            Ok(ensemble)
-        }
-        Err(unmade) => Err(Unplayed::Servers(unmade)),
-    }
+    let mut ensemble = Ensemble::new(broadcast, bank, servers)?;
+    perform_all(&mut ensemble, acts, history);
+    Ok(ensemble)
 }

@@ -45,7 +45,9 @@ impl<B: Broadcast, K: DatabaseBank> Ensemble<B, K> {
         ensures { (result.0 ≡ self.broadcast) × (result.1 ≡ self.bank) }
     {
         let Ensemble {
-            broadcast, bank, ..
+            broadcast,
+            bank,
+            ..
         } = self;
         (broadcast, bank)
     }

@@ -25,9 +25,7 @@ fn send<B: Broadcast>(
     ensures capacity { B.Broadcast.capacity broadcast.new ≡ B.Broadcast.capacity broadcast.old }
     ensures sends { Sends server (msg_of message) (B.Broadcast.capacity broadcast.old) (B.Broadcast.log broadcast.old) (B.Broadcast.waiting broadcast.old) (B.Broadcast.waiting broadcast.new) sent.old sent.new result }
 {
-    broadcast
-        .offer(message)
-        .map_err(|_| Refusal::Full(server))?;
+    broadcast.offer(message).map_err(|_| Refusal::Full(server))?;
     *sent = sent.wrapping_add(1);
     Ok(())
 }
