@@ -1,7 +1,7 @@
 //! A busy afternoon: two servers lead at once, a busy one stops while its commit waits, restarts and replays (docs/acts.md).
 #![tactic(auto)]
 
-use anyhow::anyhow;
+use anyhow::Context;
 use bank::{DatabaseBank, ReplicaBank};
 use broadcast::Broadcast;
 use deferred::Deferred;
@@ -13,7 +13,7 @@ use oldest_first::OldestFirst;
 use pairs::{Nothing, Pair};
 use playing::play_new;
 use pronto::{Act, Answer, Entry, Refusal, ServerFault, TransactionId};
-use replica::Replica;
+use replica::{CELLS, Replica};
 use statement::Operation;
 use std::io;
 
@@ -114,9 +114,11 @@ fn show_act(rt: &HostRuntime, act: Act) -> io::Result<()> {
 }
 
 fn show_transaction(rt: &HostRuntime, word: &str, id: TransactionId) -> io::Result<()> {
-    let server = id.server;
-    let client = id.client;
-    let job = id.job;
+    let TransactionId {
+        server,
+        client,
+        job,
+    } = id;
     print!(rt; "{word} at {server}, client {client}, job {job}")
 }
 
@@ -147,15 +149,14 @@ fn show_history(rt: &HostRuntime, history: &[Entry]) -> io::Result<()> {
 
 /// What a deliver answered about a position; `Stale` where none did.
 fn judgement_of(history: &[Entry], position: u64) -> Judgement {
-    let mut told = Judgement::Stale;
-    for entry in history {
-        if let Answer::Delivered(p, judgement) = entry.answer {
-            if p == position {
-                told = judgement;
-            }
-        }
-    }
-    told
+    history
+        .iter()
+        .rev()
+        .find_map(|entry| match entry.answer {
+            Answer::Delivered(p, judgement) if p == position => Some(judgement),
+            _ => None,
+        })
+        .unwrap_or(Judgement::Stale)
 }
 
 /// Prints the log with the judgements that were delivered.
@@ -164,6 +165,7 @@ fn show_log<B: Broadcast, K: DatabaseBank>(
     ensemble: &Ensemble<B, K>,
     history: &[Entry],
 ) -> io::Result<()> {
+    // kept: an ensemble lends its messages by position, and each position is printed.
     for position in 0..ensemble.ordered() {
         let judgement = judgement_of(history, position);
         if let Ok(message) = ensemble.message(position) {
@@ -183,7 +185,8 @@ fn show_server<B: Broadcast, K: DatabaseBank>(
     let delivered = ensemble.delivered(server).unwrap_or(0);
     let mark = ensemble.mark(server).unwrap_or(0);
     print!(rt; "server {server}: epoch {epoch}, delivered {delivered}, mark {mark}")?;
-    for cell in 0..64 {
+    // kept: an ensemble tells its cells by number, and each number is printed.
+    for cell in 0..CELLS as u64 {
         let value = ensemble.cell(server, cell).unwrap_or(0);
         if value != 0 {
             print!(rt; ", cell {cell} = {value}")?;
@@ -218,9 +221,9 @@ fn afternoon(rt: &HostRuntime) -> anyhow::Result<()> {
         },
     };
     let mut history = Vec::with_capacity(rt.alloc(), AFTERNOON.len())?;
-    let Ok(ensemble) = play_new(broadcast, bank, SERVERS, &AFTERNOON, &mut history) else {
-        return Err(anyhow!("the afternoon was not played"));
-    };
+    let ensemble = play_new(broadcast, bank, SERVERS, &AFTERNOON, &mut history)
+        .ok()
+        .context("the afternoon was not played")?;
     show_history(rt, history.as_slice())?;
     println!(rt; "== the log")?;
     show_log(rt, &ensemble, history.as_slice())?;

@@ -4,9 +4,10 @@ use mathlib.Core.Path.{fun_ext}
 use native.Mathlib.Decide.{ℕ_discrete}
 use Rattle.std.proofs.lemmas.Bool.{cond-true, cond-false, eq-eqb, true≢false}
 use Rattle.replica.specs.Meanings.{Meaning, upd}
-use Rattle.replica.proofs.Updates.{upd_same, upd_other}
+use Rattle.replica.proofs.Updates.{upd_same, upd_other, upd_self}
 use Rattle.message.specs.Messages.{Msg}
 use Rattle.broadcast.specs.Bags.{nth}
+use Rattle.broadcast.proofs.Positions.{nth_is, nth_set_same, nth_set_other}
 use Rattle.broadcast.specs.declared.broadcasts.Broadcast as cast
 use Rattle.bank.specs.declared.banks.ReplicaBank as replicas
 use Rattle.bank.specs.declared.banks.DatabaseBank as databases
@@ -19,26 +20,6 @@ use Rattle.server.specs.Shown.{shown}
 use Rattle.server.specs.Acting.{Settled}
 use Rattle.ensemble.specs.declared.ensembles.Ensemble.{Ensemble}
 use Rattle.ensemble.specs.Whole.{shown_or, site_at, whole, state, Place, passed}
-
-pub upd_self : {X : Type 0} (f : ℕ → X) (i : ℕ) → upd f i (f i) ≡ f
-upd_self f i = fun_ext (λ j. elim (ℕ_discrete j i) [ yes e ↦ ap (upd f i (f i)) e ∙ upd_same f i (f i) ∙ ap f (sym e) | no n ↦ upd_other f i (f i) j n ])
-
-nth_set_same : {X : Type 0} (l : List X) (k : ℕ) (x : X) → k < length l → nth (set l k x) k ≡ Some x
-nth_set_same [] k x h = absurd (omega arith)
-nth_set_same (y ∷ l) zero x h = refl
-nth_set_same (y ∷ l) (suc k) x h = nth_set_same l k x (omega arith)
-
-nth_set_other : {X : Type 0} (l : List X) (k j : ℕ) (x : X) → j ≢ k → nth (set l k x) j ≡ nth l j
-nth_set_other [] k j x n = refl
-nth_set_other (y ∷ l) zero zero x n = absurd (n refl)
-nth_set_other (y ∷ l) zero (suc j) x n = refl
-nth_set_other (y ∷ l) (suc k) zero x n = refl
-nth_set_other (y ∷ l) (suc k) (suc j) x n = nth_set_other l k j x (λ e. n (ap suc e))
-
-nth_is : {X : Type 0} (l : List X) (k : ℕ) (d : X) → k < length l → nth l k ≡ Some (get_or l k d)
-nth_is [] k d h = absurd (omega arith)
-nth_is (y ∷ l) zero d h = refl
-nth_is (y ∷ l) (suc k) d h = nth_is l k d (omega arith)
 
 or_second : (a b : Bool) → (a || b) ≡ false → b ≡ false
 or_second true b e = absurd (true≢false e)

@@ -12,6 +12,7 @@ use Rattle.replica.specs.declared.faults.Fault.TheVariants.{NoCell}
 use Rattle.replica.specs.Refusals.{cell_refusal}
 use Rattle.message.specs.Messages.{Msg}
 use Rattle.broadcast.specs.Bags.{nth}
+use Rattle.broadcast.proofs.Positions.{nth_replicate}
 use Rattle.bank.specs.Places.{cleared_below}
 use Rattle.pronto.specs.Servers.{Site, new_site, with_db}
 use Rattle.pronto.specs.States.{State, no_server, new_state}
@@ -42,17 +43,6 @@ or_both : (a b : Bool) → (a || b) ≡ false → (a ≡ false) × (b ≡ false)
 or_both true b e = absurd (true≢false e)
 or_both false b e = (refl, e)
 
-nth_eight : (x : Server) (k : ℕ) → k < 8 → nth (replicate 8 x) k ≡ Some x
-nth_eight x zero h = refl
-nth_eight x (suc zero) h = refl
-nth_eight x (suc (suc zero)) h = refl
-nth_eight x (suc (suc (suc zero))) h = refl
-nth_eight x (suc (suc (suc (suc zero)))) h = refl
-nth_eight x (suc (suc (suc (suc (suc zero))))) h = refl
-nth_eight x (suc (suc (suc (suc (suc (suc zero)))))) h = refl
-nth_eight x (suc (suc (suc (suc (suc (suc (suc zero))))))) h = refl
-nth_eight x (suc (suc (suc (suc (suc (suc (suc (suc k)))))))) h = absurd (omega arith)
-
 module _ (n : ℕ) (few : n ≤ 8) (v : Server) (ms : ℕ → Meaning) (new : (m : Meaning) → shown v m ≡ with_db new_site m) where
   new_at : (i : ℕ) (b : Bool) → (eqb i 0 || ltb n i) ≡ b → cond b new_site (shown_or (nth (replicate 8 v) (i - 1)) (cleared_below n ms (i - 1))) ≡ new_site
   new_at i true e = refl
@@ -61,7 +51,7 @@ module _ (n : ℕ) (few : n ≤ 8) (v : Server) (ms : ℕ → Meaning) (new : (m
       let h : suc k ≤ n = ltb-false n (suc k) (or_both (eqb (suc k) 0) (ltb n (suc k)) e).1 in
       let back : suc k - 1 ≡ k = omega arith in
       ap (λ q. shown_or (nth (replicate 8 v) q) (cleared_below n ms q)) back
-      ∙ ap (λ o. shown_or o (cleared_below n ms k)) (nth_eight v k (omega arith))
+      ∙ ap (λ o. shown_or o (cleared_below n ms k)) (nth_replicate 8 k v (omega arith))
       ∙ new (cleared_below n ms k)
       ∙ ap (with_db new_site) (cond-true (ltb k n) cleared (ms k) (lt-ltb k n (omega arith)))
 

@@ -47,9 +47,7 @@ fn bank_after<B: Broadcast + Drop, K: DatabaseBank + Drop>(
 ) -> Option<K> {
     let _ = bank.intake(2, &[before], 40);
     let _ = bank.intake(3, &[before], 40);
-    let Ok(mut ensemble) = Ensemble::new(broadcast, bank, 3) else {
-        return None;
-    };
+    let mut ensemble = Ensemble::new(broadcast, bank, 3).ok()?;
     post(&mut ensemble);
     let (_, after) = ensemble.into_parts();
     Some(after)
@@ -68,13 +66,11 @@ fn told<K: ReplicaBank>(bank: &K) -> [u64; 5] {
 
 #[test]
 fn spare_databases_are_never_used(rt: HostRuntime) -> Result<(), Fail> {
-    let Ok(before) = Statement::new(9, Operation::Set(99)) else {
-        return Err(Fail::new("cell 9 exists"));
-    };
+    let before = Statement::new(9, Operation::Set(99))?;
     let bank = two(two(two(two(Nothing))));
-    let Some(after) = bank_after(InTurn::new(rt.alloc())?, bank, before) else {
-        return Err(Fail::new("eight databases suffice for three servers"));
-    };
+    let after = bank_after(InTurn::new(rt.alloc())?, bank, before).ok_or(Fail::new(
+        "eight databases suffice for three servers",
+    ))?;
     assert!(rt; told(&after) == [3, 3, 0, 99, 41]);
     Ok(())
 }

@@ -9,6 +9,7 @@ use Rattle.replica.specs.Meanings.{upd}
 use Rattle.message.specs.declared.messages.Message.{Message}
 use Rattle.message.specs.Messages.{Tx, Msg, epoch_change, transaction}
 use Rattle.broadcast.specs.Bags.{nth, heard}
+use Rattle.broadcast.proofs.Positions.{nth_none}
 use Rattle.broadcast.specs.declared.faults.NotOrdered.{NotOrdered}
 use Rattle.journal.specs.Judging.{Judged, accepted, stale, committed, late, again, Summary, unless_seen, judge, after_judged, next, start, from, at}
 use Rattle.journal.specs.Verdicts.{judged_there}
@@ -96,16 +97,6 @@ at_next l k m e = rw add-one (from_next start l k m e)
 pub at_start : (l : List Msg) → at l 0 ≡ start
 unfolding at
 at_start l = refl
-
-pub nth_none : {X : Type 0} (l : List X) (k : ℕ) → nth l k ≡ None → length l ≤ k
-nth_none [] k e = omega arith
-nth_none (x ∷ l) zero e = let z : ◌≡◌ {A = ℕ} 0 1 = cc in absurd (omega arith)
-nth_none (x ∷ l) (suc k) e = let h = nth_none l k e in omega arith
-
-pub nth_some : {X : Type 0} (l : List X) (k : ℕ) (x : X) → nth l k ≡ Some x → k < length l
-nth_some [] k x e = let z : ◌≡◌ {A = ℕ} 0 1 = cc in absurd (omega arith)
-nth_some (y ∷ l) zero x e = omega arith
-nth_some (y ∷ l) (suc k) x e = let h = nth_some l k x e in omega arith
 
 -- a position below the count of ordered messages has a message
 pub there : (l : List Msg) (k : ℕ) (r : Result (Bor Message) NotOrdered) → k < length l → heard r ≡ nth l k → IsOk r

@@ -1,7 +1,7 @@
 -- A list of acts grows by one at its end, and can be cut anywhere; so the law holds of every moment on the way.
 use Rattle.std.proofs.Common.{◌≡◌, ℕ, ◌+◌, ◌<◌, ◌≤◌, List, [], ◌∷◌, ◌++◌, map, length, get_or, take, sym, refl, ap, ◌∙◌, subst, append_assoc}
 use mathlib.Core.List.{map-append}
-use Rattle.std.proofs.lemmas.List.{take_more}
+use Rattle.std.proofs.lemmas.List.{take_more, append-nil}
 use Rattle.replica.specs.Meanings.{Meaning}
 use Rattle.pronto.specs.States.{State, new_state}
 use Rattle.pronto.specs.Steps.{Step, LeadsTo}
@@ -27,12 +27,8 @@ pub record SoFar (acts : List Act) (i : ℕ) (before after : History) (s t : Sta
   pub acts_played : map act_of added ≡ take i acts
   pub leads : LeadsTo s added t
 
-append_none : (h : History) → h ≡ h ++ []
-append_none [] = refl
-append_none (x ∷ h) = ap {B = History} (λ l. x ∷ l) (append_none h)
-
 pub nothing_yet : (acts : List Act) (before : History) (s : State) → SoFar acts 0 before before s s
-nothing_yet acts before s = record { added = []; history = append_none before; acts_played = refl; leads = refl }
+nothing_yet acts before s = record { added = []; history = sym (append-nil before); acts_played = refl; leads = refl }
 
 pub one_more : (acts : List Act) (i : ℕ) (before after after' : History) (s t u : State) (a : Act) (r : Answer) → i < length acts → a ≡ get_or acts i a →
     SoFar acts i before after s t → Step t a r u → after' ≡ after ++ record { act = a; answer = r } ∷ [] → SoFar acts (i + 1) before after' s u

@@ -1,5 +1,6 @@
 -- A function with one value replaced: at that place, elsewhere, and at every place.
-use Rattle.std.proofs.Common.{◌≡◌, ℕ, eqb, ◌≢◌, sym, refl, ◌∙◌}
+use Rattle.std.proofs.Common.{◌≡◌, ℕ, eqb, ◌≢◌, sym, refl, ap, ◌∙◌}
+use mathlib.Core.Path.{fun_ext}
 use native.Mathlib.Decide.{ℕ_discrete}
 use Rattle.std.proofs.lemmas.Bool.{eq-eqb, ne_eqb, cond-true, cond-false}
 use Rattle.replica.specs.Meanings.{put, upd}
@@ -17,6 +18,10 @@ upd_same f i v = put_same f i v
 pub upd_other : {X : Type 0} (f : ℕ → X) (i : ℕ) (v : X) (j : ℕ) → j ≢ i → upd f i v j ≡ f j
 unfolding upd
 upd_other f i v j ne = put_other f i v j ne
+
+-- a value replaced by itself
+pub upd_self : {X : Type 0} (f : ℕ → X) (i : ℕ) → upd f i (f i) ≡ f
+upd_self f i = fun_ext (λ j. elim (ℕ_discrete j i) [ yes e ↦ ap (upd f i (f i)) e ∙ upd_same f i (f i) ∙ ap f (sym e) | no n ↦ upd_other f i (f i) j n ])
 
 -- what holds of each value of a function with one value replaced
 pub upd_all : {X : Type 0} (P : ℕ → X → Type 0) (f : ℕ → X) (i : ℕ) (v : X) → P i v → ((j : ℕ) → j ≢ i → P j (f j)) → (j : ℕ) → P j (upd f i v j)

@@ -87,24 +87,16 @@ const EFFECTS: [Case; 12] = [
 
 /// Whether the statement of a case leaves and answers what the case says.
 fn is_right(case: Case) -> bool {
-    match Statement::new(63, case.operation) {
-        Ok(statement) => statement.apply(case.before)
-            == Effect {
-                value: case.value,
-                answer: case.answer,
-            },
-        Err(_) => false,
-    }
+    let effect = Effect {
+        value: case.value,
+        answer: case.answer,
+    };
+    Statement::new(63, case.operation).is_ok_and(|statement| statement.apply(case.before) == effect)
 }
 
 #[test]
 fn each_leaves_and_answers(rt: HostRuntime) {
-    let mut right = 0usize;
-    for case in EFFECTS {
-        if is_right(case) {
-            right = right.saturating_add(1);
-        }
-    }
+    let right = EFFECTS.iter().filter(|&case| is_right(*case)).count();
     assert_eq!(rt; right, 12);
 }
 
@@ -119,9 +111,7 @@ fn numbers_outside_are_missing(rt: HostRuntime) {
 
 #[test]
 fn words_are_those_of_a_run_file(rt: HostRuntime) -> Result<(), Fail> {
-    let Ok(add) = Statement::new(5, Operation::Add(3)) else {
-        return Err(Fail::new("cell 5 exists"));
-    };
+    let add = Statement::new(5, Operation::Add(3))?;
     let text = format!(in rt.alloc(); "{add}")?;
     assert_eq!(rt; text.as_str(), "add 5 3");
     Ok(())

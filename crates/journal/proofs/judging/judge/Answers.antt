@@ -2,7 +2,8 @@ use Rattle.std.proofs.Common.{◌<◌, true, false, length, Some, None, sym, ref
 use Rattle.std.proofs.lemmas.Bool.{eq-eqb, ne_eqb}
 use Rattle.message.specs.Messages.{msg_of, tx_of}
 use Rattle.journal.specs.Judging.{at, judge}
-use Rattle.journal.proofs.Summaries.{epoch_judged, transaction_judged, judged_is, nth_some}
+use Rattle.broadcast.proofs.Positions.{nth_some}
+use Rattle.journal.proofs.Summaries.{epoch_judged, transaction_judged, judged_is}
 use Rattle.journal.proofs.judging.judge.Goals as goal
 
 pub before-then-requires-in-Transaction : goal.before-then-requires-in-Transaction

@@ -2,6 +2,6 @@ use Rattle.std.proofs.Common.{rules}
 use Rattle.replica.specs.Calls.{cleared}
 use Rattle.pairs.proofs.NothingReplicaBank.cell.Goals as goal
 
-pub returns-then-cell-lt64 : goal.returns-then-cell-lt64
+pub returns-then-cell : goal.returns-then-cell
 unfolding cleared
-returns-then-cell-lt64 c = search rules
+returns-then-cell c = search rules

@@ -10,7 +10,8 @@ use Rattle.pronto.specs.States.{with_messages, with_servers}
 use Rattle.replica.specs.Meanings.{upd}
 use Rattle.server.specs.Shown.{shown}
 use Rattle.ensemble.specs.Whole.{state, site_at, whole}
-use Rattle.ensemble.proofs.Lifts.{site_there, state_after, upd_self}
+use Rattle.replica.proofs.Updates.{upd_self}
+use Rattle.ensemble.proofs.Lifts.{site_there, state_after}
 use Rattle.ensemble.proofs.Sent.{looked_refused, looked_found, sends_refused, sends_full, sends_free, sent_now, not_sent}
 use Rattle.ensemble.proofs.ensembles.Ensemble.commit.Goals as goal
 
