@@ -22,7 +22,8 @@ use Rattle.server.specs.declared.states.Outcome.TheVariants.{Stays, Ends}
 use Rattle.server.specs.Looking.{FreeIn, Found, Reaches, Runnable}
 use Rattle.server.specs.Shown.{shown, row_after}
 use Rattle.server.specs.Acting.{Begins, Runs, Aborts}
-use Rattle.server.proofs.Rowwise.{upd_self, seek_row}
+use Rattle.replica.proofs.Updates.{upd_self}
+use Rattle.server.proofs.Rowwise.{seek_row}
 use Rattle.server.proofs.Settling.{refused, obeyed}
 
 module _ (i : ℕ) (v : Server) (ms : ℕ → Meaning) where

@@ -11,9 +11,6 @@ use Rattle.pronto.specs.Refusing.{seek, or_below, names}
 use Rattle.server.specs.declared.rows.Row.{Row}
 use Rattle.server.specs.Shown.{rows_of, seen_row, work_of}
 
-pub upd_self : {X : Type 0} (f : ℕ → X) (i : ℕ) → upd f i (f i) ≡ f
-upd_self f i = fun_ext (λ j. elim (ℕ_discrete j i) [ yes e ↦ ap (upd f i (f i)) e ∙ upd_same f i (f i) ∙ ap f (sym e) | no n ↦ upd_other f i (f i) j n ])
-
 pub rows_set : (xs : List (Option Row)) (s : ℕ) (x : Option Row) → s < length xs → rows_of (set xs s x) ≡ upd (rows_of xs) s (seen_row x)
 rows_set xs s x lt =
     fun_ext (λ j. elim (ℕ_discrete j s) [

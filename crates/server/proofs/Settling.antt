@@ -7,7 +7,7 @@ use Rattle.pronto.specs.Servers.{Site}
 use Rattle.server.specs.declared.servers.Server.{Server}
 use Rattle.server.specs.Shown.{shown}
 use Rattle.server.specs.Acting.{Settled}
-use Rattle.server.proofs.Rowwise.{upd_self}
+use Rattle.replica.proofs.Updates.{upd_self}
 
 module _ {T : Type 0} (why : Site → Option ServerFault) (Right : Site → T → Type 0) (done : Site → Site) (i : ℕ) (v : Server) (ms : ℕ → Meaning) where
   pub refused : (e : ServerFault) (ns : ℕ → Meaning) → why (shown v (ms i)) ≡ Some e → ns ≡ ms → Settled {T = T} (Err e) why Right done i v ms v ns

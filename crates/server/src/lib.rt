@@ -19,6 +19,5 @@ pub use counts::ServerCount;
 pub use delivers::deliver;
 pub use runs::{abort, run};
 pub use servers::Server;
-pub use servers::looks::LAST_CLIENT;
 pub use states::State;
 pub use stops::{start, stop};

@@ -3,16 +3,14 @@ ghost use Rattle.std.specs.Prelude.{◌≡◌};
 ghost use Rattle.server.specs.Counts.{Counted};
 
 use super::ServerCount;
-
-/// The most servers that an ensemble has.
-const MOST_SERVERS: u64 = 8;
+use pronto::SERVERS;
 
 impl ServerCount {
     /// That many servers; `None` exactly where the number is 0 or above 8.
     pub fn new(count: u64) -> Option<ServerCount>
         ensures { Counted result count }
     {
-        if (1..=MOST_SERVERS).contains(&count) {
+        if (1..=SERVERS as u64).contains(&count) {
             Some(ServerCount { count: count as u8 })
         } else {
             None

@@ -15,11 +15,8 @@ use crate::states::{Arrival, Outcome, arrive};
 use broadcast::Broadcast;
 use journal::{Judgement, judge, primary};
 use message::{Message, STATEMENTS, Transaction};
-use pronto::{ServerFault, TransactionId};
+use pronto::{LAST_CLIENT, ServerFault, TransactionId};
 use statement::{Operation, Statement};
-
-/// Clients are 0 to 15.
-pub const LAST_CLIENT: u8 = 15;
 
 impl Server {
     /// What every act of a client asks first: the server runs, and the client exists.

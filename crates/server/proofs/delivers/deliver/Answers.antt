@@ -1,7 +1,7 @@
 use Rattle.std.proofs.Common.{◌<◌, length, arith}
 use Rattle.std.proofs.lemmas.Result.{err_from_is_err_and}
 use Rattle.message.specs.Messages.{msg_of}
-use Rattle.journal.proofs.Summaries.{nth_some}
+use Rattle.broadcast.proofs.Positions.{nth_some}
 use Rattle.server.proofs.Delivery.{deliver_turned, deliver_fails, deliver_done}
 use Rattle.server.proofs.delivers.deliver.Goals as goal
 
