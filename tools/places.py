@@ -23,7 +23,7 @@ POINTS = {
     "2 which slot is open": r"fn (?:is_open|any_open)(?:<\w+>)?\(",
     "2 acts by one shape": r"let \(place, mut \w+\) = found;",
     "2 commands that end": r"if words\.is_done\(\) \{",
-    "3 loops over a range": rf"for {IDENT} in [^{{}}]*?\.\.[^{{}}]*?\{{",
+    "3 loops over a range": rf"for (?!_ ){IDENT} in [^{{}}]*?\.\.[^{{}}]*?\{{",
     "3 loops that look for a place or a bit": r"for [^{}]*? in [^{}]*?\{\s*if [^{}]*\{\s*return [^{}]*\}\s*\}",
     "4 equality by a function": r"fn same\(",
     "4 Display without a text in the contract": r"impl fmt::Display for \w+ \{\s*fn",
@@ -31,8 +31,8 @@ POINTS = {
     "5 number, client and job": r"client: u8,\s*job: u32",
     "5 server, bank and place": r"server: &mut Server,\s*bank: &mut K",
     "5 buffer and place": r"line: &mut \[u8\],\s*at: usize|output: &mut \[u8\],\s*at: usize",
-    "6 fields that are arrays": rf"(?m)^ +(?:pub(?:\(crate\))? )?{IDENT}: \[[^=;()]*; \w+\]+,",
-    "6 fields that count": rf"(?m)^ +(?:pub )?count: \w+,",
+    "6 arrays side by side, or with a count or a flag": r"(?:statements|written|opens|all): \[[^;()]*; \w+\],\s*(?://[^\n]*\s*)*(?:pub\(crate\) )?(?:results|values|reads|ghost eight)\b",
+    "6 arrays and lists with a count": r"(?:\[Server; \w+\]|Places|Vec<Message>|\[u64; STATEMENTS\]),\s*(?://[^\n]*\s*)*count: ",
     "7 function pointers, boxes and dyn": r"\bfn\(|dyn |Box<",
 }
 

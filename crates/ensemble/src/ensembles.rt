@@ -8,6 +8,7 @@ pub mod finding;
 pub mod making;
 pub mod sending;
 
+// kept: clauses name the state by the function `state`, since a model would hide the broadcast and the bank that taking apart promises.
 /// Up to eight servers, each with a database of the bank, and one ordered broadcast, held by value. No act allocates.
 #[derive(Drop)]
 pub struct Ensemble<B, K> {

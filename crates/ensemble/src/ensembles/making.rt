@@ -23,6 +23,7 @@ impl<B: Broadcast, K: DatabaseBank> Ensemble<B, K> {
     pub fn new(mut broadcast: B, mut bank: K, servers: u64) -> Result<Ensemble<B, K>, Unmade<B, K>>
         ensures { Makes B.Broadcast K.ReplicaBank K.DatabaseBank.own broadcast bank servers result }
     {
+        // kept: two exits that hand both back, since `ok_or` would take them before the second test.
         let Some(count) = ServerCount::new(servers) else {
             return Err(Unmade { broadcast, bank });
         };
