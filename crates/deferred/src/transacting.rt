@@ -32,7 +32,7 @@ impl Database for Deferred {
             return Err(Fault::Busy(cell));
         }
         let committed = self.cells[cell as usize];
-        // kept: after `as_mut()` and `?` a proof does not learn what the slot holds in the end
+        // kept: tried with `as_mut`, `ok_or` and `?`; what the slot holds in the end stayed open. The slot was found open above.
         let Some(transaction) = &mut self.slots[slot] else {
             return Err(Fault::SlotClosed);
         };
