@@ -95,54 +95,10 @@ const AFTERNOON: [Act; 40] = [
     Act::Begin(LATER),
 ];
 
-/// Prints an act.
-fn show_act(rt: &HostRuntime, act: Act) -> io::Result<()> {
-    match act {
-        Act::Begin(id) => show_transaction(rt, "begin", id),
-        Act::Run(id, cell, _) => {
-            show_transaction(rt, "run", id)?;
-            print!(rt; " on cell {cell}")
-        }
-        Act::Commit(id) => show_transaction(rt, "commit", id),
-        Act::Abort(id) => show_transaction(rt, "abort", id),
-        Act::Suspect(server) => print!(rt; "suspect at {server}"),
-        Act::Order => print!(rt; "order"),
-        Act::Deliver(server) => print!(rt; "deliver at {server}"),
-        Act::Stop(server) => print!(rt; "stop {server}"),
-        Act::Start(server) => print!(rt; "start {server}"),
-    }
-}
-
-fn show_transaction(rt: &HostRuntime, word: &str, id: TransactionId) -> io::Result<()> {
-    let TransactionId {
-        server,
-        client,
-        job,
-    } = id;
-    print!(rt; "{word} at {server}, client {client}, job {job}")
-}
-
-/// Prints an answer and ends the line.
-fn show_answer(rt: &HostRuntime, answer: Answer) -> io::Result<()> {
-    match answer {
-        Answer::Done => println!(rt; " -> ok"),
-        Answer::Result(value) => println!(rt; " -> {value}"),
-        Answer::Ordered(position) => println!(rt; " -> position {position}"),
-        Answer::Delivered(position, judgement) => println!(rt;
-            " -> position {position}: {judgement}"
-        ),
-        Answer::Refused(refusal) => {
-            let number = refusal.number();
-            println!(rt; " -> refused by {number}")
-        }
-    }
-}
-
 /// Prints each act with its answer.
 fn show_history(rt: &HostRuntime, history: &[Entry]) -> io::Result<()> {
-    for entry in history {
-        show_act(rt, entry.act)?;
-        show_answer(rt, entry.answer)?;
+    for Entry { act, answer } in history {
+        println!(rt; "{act} -> {answer}")?;
     }
     Ok(())
 }

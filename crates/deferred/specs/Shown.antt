@@ -1,15 +1,11 @@
 -- What an open slot shows.
-use Rattle.std.specs.Prelude.{ℕ, true, false, Some, None, Option, slice_index_or}
+use Rattle.std.specs.Prelude.{ℕ, true, false, cond, Some, None, Option, slice_index, slice_index_or}
 use Rattle.replica.specs.Meanings.{Slot, put}
 use Rattle.deferred.specs.declared.transaction.Transaction.{Transaction}
 
 -- The locks and the values, as functions of the unit and of the cell.
 abbrev pub shown : Transaction → Slot
-shown t = record {
-  reads = λ u. slice_index_or t.reads u false;
-  writes = λ u. slice_index_or t.writes u false;
-  own = λ c. slice_index_or t.own c None;
-}
+shown t = record { reads = λ u. slice_index_or t.reads u false; writes = λ u. slice_index_or t.writes u false; own = λ c. cond (slice_index_or t.written c false) (Some (slice_index t.values c)) None }
 
 -- A closed slot shows nothing.
 abbrev pub shown_of : Option Transaction → Option Slot

@@ -2,3 +2,4 @@ pub mod Runs
 pub mod Judging
 pub mod Positions
 pub mod Verdicts
+pub mod Words

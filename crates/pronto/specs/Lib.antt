@@ -8,3 +8,4 @@ pub mod Steps
 pub mod Histories
 pub mod Law
 pub mod Example
+pub mod Words

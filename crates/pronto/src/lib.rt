@@ -5,6 +5,7 @@ pub mod acts;
 pub mod faults;
 pub mod law;
 pub mod refusals;
+pub mod wording;
 
 pub use acts::{Act, Answer, Entry, LAST_CLIENT, SERVERS, TransactionId};
 pub use faults::ServerFault;

@@ -25,7 +25,7 @@ impl From<NothingWaits> for Refusal {
     ghost from_gives = { λ _ told. told ≡ refusals.NothingWaits };
 
     fn from(_waits: NothingWaits) -> Refusal {
-        Refusal::NothingWaits
+        Self::NothingWaits
     }
 }
 
@@ -33,7 +33,7 @@ impl From<NotOrdered> for Refusal {
     ghost from_gives = { λ _ told. told ≡ refusals.NotOrdered };
 
     fn from(_ordered: NotOrdered) -> Refusal {
-        Refusal::NotOrdered
+        Self::NotOrdered
     }
 }
 

@@ -19,7 +19,8 @@ impl Transaction {
         Transaction {
             reads: [false; UNITS],
             writes: [false; UNITS],
-            own: [None; CELLS],
+            written: [false; CELLS],
+            values: [0; CELLS],
         }
     }
 
@@ -27,7 +28,12 @@ impl Transaction {
     pub(crate) fn sees(&self, statement: &Statement, committed: u64) -> u64
         ensures { result ≡ or_else ((shown self.now).own statement.now.cell) committed }
     {
-        self.own[statement.cell() as usize].unwrap_or(committed)
+        let cell = statement.cell() as usize;
+        if self.written[cell] {
+            self.values[cell]
+        } else {
+            committed
+        }
     }
 
     /// Whether its locks exclude the one that another slot needs for the statement.
@@ -43,7 +49,9 @@ impl Transaction {
         ensures { shown self.new ≡ with_write (shown self.old) (unit_of_eight statement.now.cell) statement.now.cell value }
     {
         self.writes[unit(statement)] = true;
-        self.own[statement.cell() as usize] = Some(value);
+        let cell = statement.cell() as usize;
+        self.written[cell] = true;
+        self.values[cell] = value;
     }
 
     /// Locks the unit of the statement's cell for reading.
@@ -57,6 +65,12 @@ impl Transaction {
     pub(crate) fn overlay(&self, cells: [u64; CELLS]) -> [u64; CELLS]
         ensures { (k : ℕ) → slice_index result k ≡ or_else ((shown self.now).own k) (slice_index cells k) }
     {
-        array::from_fn(|c| self.own[c].unwrap_or(cells[c]))
+        array::from_fn(|c| {
+            if self.written[c] {
+                self.values[c]
+            } else {
+                cells[c]
+            }
+        })
     }
 }
