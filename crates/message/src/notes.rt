@@ -1,5 +1,5 @@
 //! Up to six statements, each with the result that its run answered.
-ghost use Rattle.std.specs.Prelude.{◌≡◌, ◌≤◌, length};
+ghost use Rattle.std.specs.Prelude.{◌≤◌};
 
 use statement::Statement;
 
@@ -16,6 +16,4 @@ pub struct Notes {
     results: [u64; STATEMENTS],
     count: usize,
     ghost short: { count ≤ 6 },
-    ghost statements_room: { length statements ≡ 6 },
-    ghost results_room: { length results ≡ 6 },
 }

@@ -6,6 +6,6 @@ pub returns : goal.returns
 returns c =
     let n = c.args.self.now in
     let few : n.count < 6 = omega arith in
-    let s : n.count < length n.statements = omega (arith, n.statements_room) in
-    let r : n.count < length n.results = omega (arith, n.results_room) in
+    let s : n.count < length n.statements = omega arith in
+    let r : n.count < length n.results = omega arith in
     (simp length-take (omega arith), take_more_set n.statements n.count c.args.statement s, take_more_set n.results n.count c.args.answer r)
