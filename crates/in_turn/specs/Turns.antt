@@ -1,14 +1,10 @@
 -- What a broadcast in lines holds, and which message is ordered.
 use Rattle.std.specs.Prelude.{◌≡◌, ℕ, ◌+◌, ◌%◌, ◌<◌, List, [], ◌∷◌, ◌++◌, map, Some, Ok, Err, vec_items, Result}
 use Rattle.std.specs.List.{remove}
-use Rattle.message.specs.Messages.{Msg, epoch_change, transaction, msg_of}
+use Rattle.message.specs.Messages.{Msg, msg_of, msg_sender}
 use Rattle.broadcast.specs.Bags.{nth}
 use Rattle.broadcast.specs.declared.faults.NothingWaits.{NothingWaits}
 use Rattle.in_turn.specs.declared.lines.InTurn.{InTurn}
-
-abbrev pub msg_sender : Msg → ℕ
-msg_sender (epoch_change s e) = s
-msg_sender (transaction t) = t.sender
 
 -- The line of a message goes by its sender.
 abbrev pub line_of : Msg → ℕ

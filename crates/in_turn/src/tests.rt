@@ -10,16 +10,9 @@ fn from(sender: u8, epoch: u64) -> Message {
     Message::Epoch(EpochChange { sender, epoch })
 }
 
-fn epoch_of(message: &Message) -> u64 {
-    match message {
-        Message::Epoch(change) => change.epoch,
-        Message::Transaction(transaction) => transaction.epoch,
-    }
-}
-
 // Offers a message of each sender, with epochs from 1.
 fn offer_from(lines: &mut InTurn, senders: &[u8]) -> Result<(), Fail> {
-    for (sender, epoch) in senders.iter().zip(1..) {
+    for (epoch, sender) in (1u64..).zip(senders) {
         lines.offer(from(*sender, epoch))?;
     }
     Ok(())
@@ -29,7 +22,7 @@ fn offer_from(lines: &mut InTurn, senders: &[u8]) -> Result<(), Fail> {
 fn check_order(rt: &impl Abort, lines: &mut InTurn, epochs: &[u64]) -> Result<(), Fail> {
     for epoch in epochs {
         let position = lines.order()?;
-        assert_eq!(rt; epoch_of(lines.message_at(position)?), *epoch);
+        assert_eq!(rt; lines.message_at(position)?.epoch(), *epoch);
     }
     Ok(())
 }

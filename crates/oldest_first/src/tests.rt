@@ -9,16 +9,11 @@ fn from(sender: u8) -> Message {
     Message::Epoch(EpochChange { sender, epoch: 1 })
 }
 
-fn sender_of(message: &Message) -> u8 {
-    match message {
-        Message::Epoch(change) => change.sender,
-        Message::Transaction(transaction) => transaction.sender,
-    }
-}
-
 // The sender of the message at a position.
 fn sender_at(row: &OldestFirst, position: u64) -> Option<u8> {
-    row.message_at(position).ok().map(sender_of)
+    row.message_at(position)
+        .ok()
+        .map(|message| message.sender())
 }
 
 #[test]

@@ -1,7 +1,7 @@
 //! Which waiting message is ordered next.
 ghost use Rattle.std.specs.Prelude.{◌≡◌, [], MatchOption};
 ghost use Rattle.message.specs.Messages.{msg_of};
-ghost use Rattle.in_turn.specs.Turns.{msg_sender, line_of, waiting_of, turn_of, Empty, OldestIn, Chosen};
+ghost use Rattle.in_turn.specs.Turns.{line_of, waiting_of, turn_of, Empty, OldestIn, Chosen};
 
 use super::InTurn;
 use message::Message;
@@ -9,21 +9,11 @@ use message::Message;
 /// The lines: an ensemble has at most eight servers, so that each has a line of its own.
 pub const LINES: usize = 8;
 
-// The server that sent a message.
-fn sender_of(message: &Message) -> u8
-    ensures { result ≡ msg_sender (msg_of message.now) }
-{
-    match message {
-        Message::Epoch(change) => change.sender,
-        Message::Transaction(transaction) => transaction.sender,
-    }
-}
-
 // The line in which a message waits.
 pub(super) fn line_of(message: &Message) -> usize
     ensures { result ≡ line_of (msg_of message.now) }
 {
-    usize::from(sender_of(message)) % LINES
+    usize::from(message.sender()) % LINES
 }
 
 impl InTurn {

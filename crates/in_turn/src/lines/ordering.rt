@@ -12,6 +12,7 @@ use broadcast::{Broadcast, Full, NotOrdered, NothingWaits};
 use message::Message;
 use std::alloc::{AllocError, Global};
 
+// kept: a number of this make's own; another make may have another.
 /// The most messages, ordered and waiting together: a fixed number, so that all memory is taken when the broadcast is made.
 pub const CAPACITY: usize = 128;
 
