@@ -54,7 +54,7 @@ fn further<'a>(words: &mut Lexer<'a>, opening: Opening) -> Option<Command<'a>>
 pub fn parse(line: &[u8], number: u32) -> Option<Command<'_>>
     ensures { Reads result line.now }
 {
-    // kept: (d) the line's number, since the lexer gives each word its line; a number made up here would be wrong.
+    // kept: the line's number, since the lexer gives each word its line; a number made up here would be wrong.
     let mut words = Lexer::new(line, number);
     let opening = opening_of(words.word()?)?;
     let command = further(&mut words, opening)?;

@@ -35,6 +35,7 @@ impl Replica for Deferred {
         self.mark
     }
 
+    // kept: both makes take in with these words; one function for both would need a trait that lends cells, slots and mark.
     fn intake(&mut self, statements: &[Statement], position: u64) -> Result<(), Fault> {
         if slots::any_open(&self.slots) {
             return Err(Fault::NotQuiet);

@@ -17,7 +17,7 @@ pub fn place_of(names: &[&[u8]], name: &[u8]) -> Option<usize>
     names.iter().position(|listed| *listed == name)
 }
 
-// kept: (d) plain functions for these five, since `From` cannot be written between types of two other crates.
+// kept: plain functions for these five, since `From` cannot be written between types of two other crates.
 
 /// The act of a verb on a server.
 fn server_act(verb: ServerVerb, server: u8) -> Act

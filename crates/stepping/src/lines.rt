@@ -42,6 +42,7 @@ pub fn take_step<B: Broadcast, K: DatabaseBank>(
     if line.len() < LINE_BYTES {
         return Err(ShortLine);
     }
+    // kept: the form for an `Option` within a `Result`, where `?` cannot pass `None` on.
     let Some(found) = file.line(place) else {
         return Ok(None);
     };
