@@ -10,6 +10,7 @@ use in_place::InPlace;
 use journal::Judgement;
 use message::Message;
 use oldest_first::OldestFirst;
+use oldest_first::rows::ordering::CAPACITY;
 use pairs::{Nothing, Pair};
 use playing::play_new;
 use pronto::{Act, Answer, Entry, Refusal, ServerFault, TransactionId};
@@ -96,36 +97,33 @@ const AFTERNOON: [Act; 40] = [
 ];
 
 /// Prints each act with its answer.
-fn show_history(rt: &HostRuntime, history: &[Entry]) -> io::Result<()> {
+fn show_history(rt: &impl Print, history: &[Entry]) -> io::Result<()> {
     for Entry { act, answer } in history {
         println!(rt; "{act} -> {answer}")?;
     }
     Ok(())
 }
 
-/// What a deliver answered about a position; `Stale` where none did.
-fn judgement_of(history: &[Entry], position: u64) -> Judgement {
-    history
-        .iter()
-        .rev()
-        .find_map(|entry| match entry.answer {
-            Answer::Delivered(p, judgement) if p == position => Some(judgement),
-            _ => None,
-        })
-        .unwrap_or(Judgement::Stale)
+/// What a deliver answered about a position, where one did.
+fn judgement_of(history: &[Entry], position: u64) -> Option<Judgement> {
+    history.iter().rev().find_map(|entry| match entry.answer {
+        Answer::Delivered(p, judgement) if p == position => Some(judgement),
+        _ => None,
+    })
 }
 
 /// Prints the log with the judgements that were delivered.
 fn show_log<B: Broadcast, K: DatabaseBank>(
-    rt: &HostRuntime,
+    rt: &impl Print,
     ensemble: &Ensemble<B, K>,
     history: &[Entry],
-) -> io::Result<()> {
-    // kept: an ensemble lends its messages by position, and each position is printed.
+) -> anyhow::Result<()> {
+    // kept: an ensemble lends its messages by position, with no iterator, and each position is printed.
     for position in 0..ensemble.ordered() {
-        let judgement = judgement_of(history, position);
-        if let Ok(message) = ensemble.message(position) {
-            println!(rt; "{position}: {message} -> {judgement}")?;
+        let message = ensemble.message(position)?;
+        match judgement_of(history, position) {
+            Some(judgement) => println!(rt; "{position}: {message} -> {judgement}")?,
+            None => println!(rt; "{position}: {message}")?,
         }
     }
     Ok(())
@@ -133,22 +131,23 @@ fn show_log<B: Broadcast, K: DatabaseBank>(
 
 /// Prints the cells of a server's database that are not 0, and where the server stands.
 fn show_server<B: Broadcast, K: DatabaseBank>(
-    rt: &HostRuntime,
+    rt: &impl Print,
     ensemble: &Ensemble<B, K>,
     server: u8,
-) -> io::Result<()> {
-    let epoch = ensemble.epoch(server).unwrap_or(0);
-    let delivered = ensemble.delivered(server).unwrap_or(0);
-    let mark = ensemble.mark(server).unwrap_or(0);
+) -> anyhow::Result<()> {
+    let epoch = ensemble.epoch(server)?;
+    let delivered = ensemble.delivered(server)?;
+    let mark = ensemble.mark(server)?;
     print!(rt; "server {server}: epoch {epoch}, delivered {delivered}, mark {mark}")?;
     // kept: an ensemble tells its cells by number, and each number is printed.
     for cell in 0..CELLS as u64 {
-        let value = ensemble.cell(server, cell).unwrap_or(0);
+        let value = ensemble.cell(server, cell)?;
         if value != 0 {
             print!(rt; ", cell {cell} = {value}")?;
         }
     }
-    println!(rt; "")
+    println!(rt; "")?;
+    Ok(())
 }
 
 /// Two databases, and eight.
@@ -157,8 +156,8 @@ type Two<K> = Pair<InPlace, Pair<Deferred, K>>;
 type Eight = Two<Two<Two<Two<Nothing>>>>;
 
 /// Prints what the largest ensemble takes: eight servers with their databases, and the messages of a broadcast of 128.
-fn show_size(rt: &HostRuntime) -> io::Result<()> {
-    let bytes = size_of::<Ensemble<OldestFirst, Eight>>() + 128 * size_of::<Message>();
+fn show_size(rt: &impl Print) -> io::Result<()> {
+    let bytes = size_of::<Ensemble<OldestFirst, Eight>>() + CAPACITY * size_of::<Message>();
     let kibibytes = bytes / 1024;
     println!(rt; "an ensemble of eight with a broadcast of 128 takes {kibibytes} KiB")
 }

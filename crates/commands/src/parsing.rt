@@ -51,10 +51,10 @@ fn further<'a>(words: &mut Lexer<'a>, opening: Opening) -> Option<Command<'a>>
 }
 
 /// The command that a line writes, which has this number in the file; `None` where it writes none.
+// kept: the number. No answer shows it, but it is a parameter of a public function, and the lexer's words carry it.
 pub fn parse(line: &[u8], number: u32) -> Option<Command<'_>>
     ensures { Reads result line.now }
 {
-    // kept: the line's number, since the lexer gives each word its line; a number made up here would be wrong.
     let mut words = Lexer::new(line, number);
     let opening = opening_of(words.word()?)?;
     let command = further(&mut words, opening)?;

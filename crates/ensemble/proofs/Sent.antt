@@ -1,10 +1,13 @@
 -- Acts that send a message: why one is refused, and the whole after an offer.
-use Rattle.std.proofs.Common.{◌≡◌, ℕ, ◌+◌, ◌<◌, ◌≤◌, Bool, true, false, cond, List, length, Some, None, Ok, Err, Option, Result, sym, refl, ap, ◌∙◌, subst, arith}
+use Rattle.std.proofs.Common.{◌≡◌, ℕ, ◌+◌, ◌%◌, ◌^◌, ◌<◌, ◌≤◌, Bool, true, false, cond, List, length, Some, None, Ok, Err, Option, Result, sym, refl, ap, ◌∙◌, subst, arith}
 use Rattle.std.proofs.lemmas.Bool.{cond-true, cond-false, le-leb, lt-leb}
 use Rattle.message.specs.Messages.{Msg}
 use Rattle.pronto.specs.Servers.{Site}
 use Rattle.pronto.specs.States.{State, no_server, is_full, with_messages, at_server, why_at}
+use Rattle.broadcast.specs.Bags.{Inserted}
 use Rattle.pronto.specs.Acts.{unless_full}
+use Rattle.pronto.specs.Acts as acts
+use Rattle.ensemble.specs.Sending.{Sends}
 use Rattle.pronto.specs.declared.faults.ServerFault.{ServerFault}
 use Rattle.pronto.specs.declared.refusals.Refusal.{Refusal}
 use Rattle.pronto.specs.declared.refusals.Refusal.TheVariants as refusal
@@ -64,3 +67,11 @@ module _ (s : State) (log' waiting' : List Msg) (capacity' : ℕ) (l : log' ≡ 
 
   pub not_sent : (n : ℕ) → waiting' ≡ s.waiting → n ≡ s.sent → state_now log' waiting' capacity' n ≡ s
   not_sent n w h = ap (state_now log' waiting' capacity') h ∙ not_offered w
+
+  -- an act of server i that sends a message and changes no server
+  pub sent_or_full : (i n : ℕ) (m m' : Msg) (v : Site) (why : Site → Option ServerFault) → no_server s i ≡ false → s.servers i ≡ v → why v ≡ None → m' ≡ m → (r : Result (Unit {0}) Refusal) →
+      Sends i m' s.capacity s.log s.waiting waiting' s.sent n r → acts.Sends s m s.servers (unless_full s i (why_at s i why)) r (state_now log' waiting' capacity' n)
+  sent_or_full i n m m' v why known site none same (Ok u) o =
+      let F : Msg → Type 0 = λ x. Inserted x s.waiting waiting' in
+      (sends_free s i why v known site none o.0, subst F same o.1, sent_now n ((s.sent + 1) % 2 ^ 64) o.2)
+  sent_or_full i n m m' v why known site none same (Err e) o = (sends_full s i why v known site none o.0 ∙ ap Some (sym o.3), not_sent n o.1 o.2)

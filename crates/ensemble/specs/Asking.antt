@@ -1,7 +1,6 @@
 -- Questions: what each tells, and when it is turned down.
 use Rattle.std.specs.Prelude.{◌≡◌, ℕ, Bool, cond, Some, None, Ok, Err, Option, Result, nat_lt}
 use Rattle.std.specs.Borrow.{Bor}
-use Rattle.replica.specs.Meanings.{Meaning}
 use Rattle.message.specs.declared.messages.Message.{Message}
 use Rattle.message.specs.Messages.{msg_of}
 use Rattle.broadcast.specs.Bags.{nth}

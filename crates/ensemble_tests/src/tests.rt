@@ -68,10 +68,9 @@ fn told<K: ReplicaBank>(bank: &K) -> [u64; 5] {
 fn spare_databases_are_never_used(rt: HostRuntime) -> Result<(), Fail> {
     let before = Statement::new(9, Operation::Set(99))?;
     let bank = two(two(two(two(Nothing))));
-    // kept: `ok_or` asks for an error that can be dropped, and a `Fail` cannot be.
-    let Some(after) = bank_after(InTurn::new(rt.alloc())?, bank, before) else {
-        return Err(Fail::new("eight databases suffice for three servers"));
-    };
+    let after = bank_after(InTurn::new(rt.alloc())?, bank, before).ok_or(
+        "eight databases suffice for three servers",
+    )?;
     assert!(rt; told(&after) == [3, 3, 0, 99, 41]);
     Ok(())
 }

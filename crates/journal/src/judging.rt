@@ -70,7 +70,7 @@ fn before<B: Broadcast>(broadcast: &B, position: u64, client: u8, job: u32) -> S
         epoch: 1,
         earlier: None,
     };
-    // kept: a broadcast lends its messages by position, and the standing notes the position.
+    // kept: a broadcast lends its messages by position, with no iterator, and the standing notes the position.
     for q in 0..position {
         let message = broadcast.message_at(q).unwrap();
         so_far = so_far.past(q, message, client, job);

@@ -11,9 +11,8 @@ pub fn cut(bytes: &[u8], stop: u8) -> Option<(&[u8], &[u8])>
     Some((&bytes[..i], &bytes[i + 1..]))
 }
 
-// kept: a public function that says no more than `==`, which the readers use.
 /// Whether two texts are the same.
-// kept: a public promise; within the repository `==` itself is written, which says the same.
+// kept: a public function keeps its promise; the code itself writes `==`, which says the same.
 pub fn same(text: &[u8], word: &[u8]) -> bool
     ensures { Decides result (text.now ≡ word.now) }
 {

@@ -20,7 +20,8 @@ pub enum Token<'a> {
         text: &'a [u8],
         line: u32,
     },
-    /// There is no further word. kept: a variant and not `None`, since the end tells its line as a word does.
+    /// There is no further word.
+    // kept: a variant and not `None`, since the end tells its line as a word does.
     End {
         line: u32,
     },

@@ -53,7 +53,7 @@ fn order_all<B: Broadcast>(broadcast: &mut B) {
 }
 
 /// Prints the cells in which two states differ.
-fn show_changes(rt: &HostRuntime, before: &[u64; CELLS], after: &[u64; CELLS]) -> io::Result<()> {
+fn show_changes(rt: &impl Print, before: &[u64; CELLS], after: &[u64; CELLS]) -> io::Result<()> {
     for (c, (was, is)) in before.iter().zip(after).enumerate() {
         if was != is {
             println!(rt; "   cell {c}: {was} -> {is}")?;
@@ -74,9 +74,9 @@ fn cells_after(cells: [u64; CELLS], message: &Message, judgement: Judgement) -> 
 }
 
 /// Prints each position of the log with its message, its judgement and the cells that it changed.
-fn show_log<B: Broadcast>(rt: &HostRuntime, broadcast: &B) -> anyhow::Result<()> {
+fn show_log<B: Broadcast>(rt: &impl Print, broadcast: &B) -> anyhow::Result<()> {
     let mut cells = [0u64; CELLS];
-    // kept: a broadcast lends its messages by position, and each position is printed.
+    // kept: a broadcast lends its messages by position, with no iterator, and each position is printed.
     for position in 0..broadcast.ordered_count() {
         let message = broadcast.message_at(position)?;
         let judgement = judge(broadcast, position)?;
@@ -90,7 +90,7 @@ fn show_log<B: Broadcast>(rt: &HostRuntime, broadcast: &B) -> anyhow::Result<()>
 
 /// The messages through one broadcast.
 fn tour<B: Broadcast>(
-    rt: &HostRuntime,
+    rt: &impl Print,
     broadcast: &mut B,
     messages: &[Message],
 ) -> anyhow::Result<()> {

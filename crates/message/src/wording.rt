@@ -1,8 +1,9 @@
 //! Messages as text for people.
-use crate::messages::{Message, Transaction};
+use crate::messages::{EpochChange, Message, Transaction};
 use crate::notes::Notes;
 use std::fmt;
 
+// kept: no text in the contract of these two: it is printed in a loop, and that goal stays open today.
 /// Each statement with its result after a space, as ` add 5 3 = 3; get 5 = 3;`.
 impl fmt::Display for Notes {
     fn fmt<W: fmt::Write>(&self, f: &mut fmt::Formatter<W>) -> fmt::Result {
@@ -18,8 +19,7 @@ impl fmt::Display for Message {
     fn fmt<W: fmt::Write>(&self, f: &mut fmt::Formatter<W>) -> fmt::Result {
         match self {
             Message::Epoch(change) => {
-                let sender = change.sender;
-                let epoch = change.epoch;
+                let EpochChange { sender, epoch } = change;
                 write!(f, "server {sender}, epoch {epoch}: next epoch")
             }
             Message::Transaction(transaction) => {

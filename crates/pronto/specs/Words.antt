@@ -2,6 +2,7 @@
 use Rattle.std.specs.Prelude.{ℕ, List, ◌++◌, codes, decimal}
 use Rattle.journal.specs.Words.{judgement_words}
 use Rattle.pronto.specs.Numbers.{number_of}
+use Rattle.pronto.specs.declared.refusals.Refusal.{Refusal}
 use Rattle.pronto.specs.declared.acts.TransactionId.{TransactionId}
 use Rattle.pronto.specs.declared.acts.Act.{Act}
 use Rattle.pronto.specs.declared.acts.Act.TheVariants as act
@@ -23,10 +24,14 @@ act_words (act.Deliver i) = codes "deliver at " ++ decimal i
 act_words (act.Stop i) = codes "stop " ++ decimal i
 act_words (act.Start i) = codes "start " ++ decimal i
 
--- What was answered; a refusal by its number.
+-- A refusal, by its number.
+abbrev pub refusal_words : Refusal → List ℕ
+refusal_words r = codes "refused by " ++ decimal (number_of r)
+
+-- What was answered.
 abbrev pub answer_words : Answer → List ℕ
 answer_words answer.Done = codes "ok"
 answer_words (answer.Result v) = decimal v
 answer_words (answer.Ordered p) = codes "position " ++ decimal p
 answer_words (answer.Delivered p j) = codes "position " ++ (decimal p ++ (codes ": " ++ judgement_words j))
-answer_words (answer.Refused r) = codes "refused by " ++ decimal (number_of r)
+answer_words (answer.Refused r) = refusal_words r

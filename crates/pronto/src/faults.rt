@@ -5,7 +5,7 @@ ghost use Rattle.pronto.specs.Numbers.{fault_number, passed_up};
 use replica::Fault;
 
 /// The refusals of one server (docs/refusals.md has their numbers). A refused act changes nothing.
-#[derive(Clone, Copy, PartialEq, Eq)]
+#[derive(Clone, Copy, PartialEq, Eq, Debug)]
 pub enum ServerFault {
     /// The server is stopped.
     Stopped,

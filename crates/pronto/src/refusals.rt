@@ -7,7 +7,7 @@ use crate::faults::ServerFault;
 use broadcast::{NotOrdered, NothingWaits};
 
 /// The refusals of an ensemble. A refused act changes nothing.
-#[derive(Clone, Copy, PartialEq, Eq)]
+#[derive(Clone, Copy, PartialEq, Eq, Debug)]
 pub enum Refusal {
     /// There is no such server.
     NoServer,

@@ -1,8 +1,10 @@
 //! Acts and answers as text for people.
 ghost use Rattle.std.specs.Prelude.{Some};
-ghost use Rattle.pronto.specs.Words.{id_words, act_words, answer_words};
+ghost use Rattle.pronto.specs.Words.{id_words, act_words, refusal_words, answer_words};
 
 use crate::acts::{Act, Answer, TransactionId};
+use crate::refusals::Refusal;
+use std::error::Error;
 use std::fmt;
 
 /// `1, client 0, job 7`: server, client and job.
@@ -46,10 +48,19 @@ impl fmt::Display for Answer {
             Answer::Result(value) => write!(f, "{value}"),
             Answer::Ordered(position) => write!(f, "position {position}"),
             Answer::Delivered(position, judgement) => write!(f, "position {position}: {judgement}"),
-            Answer::Refused(refusal) => {
-                let number = refusal.number();
-                write!(f, "refused by {number}")
-            }
+            Answer::Refused(refusal) => write!(f, "{refusal}"),
         }
     }
 }
+
+/// `refused by 13`: the number of docs/refusals.md.
+impl fmt::Display for Refusal {
+    ghost output = { λ r. Some (refusal_words r) };
+
+    fn fmt<W: fmt::Write>(&self, f: &mut fmt::Formatter<W>) -> fmt::Result {
+        let number = self.number();
+        write!(f, "refused by {number}")
+    }
+}
+
+impl Error for Refusal {}

@@ -15,7 +15,7 @@ use statement::Operation;
 use std::io;
 
 /// Prints a case with the number that it is refused by, or that it is served.
-fn show<T: Drop>(rt: &HostRuntime, case: &str, outcome: Result<T, Refusal>) -> io::Result<()> {
+fn show<T: Drop>(rt: &impl Print, case: &str, outcome: Result<T, Refusal>) -> io::Result<()> {
     match outcome {
         Ok(_) => println!(rt; "{case} -> served"),
         Err(refusal) => {
@@ -34,10 +34,7 @@ fn id(server: u8, client: u8, job: u32) -> TransactionId {
 }
 
 /// Numbers that name nothing, and stopped or running servers.
-fn names<B: Broadcast, K: DatabaseBank>(
-    rt: &HostRuntime,
-    e: &mut Ensemble<B, K>,
-) -> io::Result<()> {
+fn names<B: Broadcast, K: DatabaseBank>(rt: &impl Print, e: &mut Ensemble<B, K>) -> io::Result<()> {
     show(rt, "stop of server 0", e.stop(0))?;
     show(rt, "stop of server 4 of 3", e.stop(4))?;
     show(rt, "start of a running server", e.start(3))?;
@@ -82,7 +79,7 @@ fn names<B: Broadcast, K: DatabaseBank>(
 
 /// One transaction, statement by statement.
 fn statements<B: Broadcast, K: DatabaseBank>(
-    rt: &HostRuntime,
+    rt: &impl Print,
     e: &mut Ensemble<B, K>,
 ) -> io::Result<()> {
     show(
@@ -139,7 +136,7 @@ fn statements<B: Broadcast, K: DatabaseBank>(
 
 /// Eight transactions, and a full broadcast.
 fn limits<B: Broadcast, K: DatabaseBank>(
-    rt: &HostRuntime,
+    rt: &impl Print,
     e: &mut Ensemble<B, K>,
 ) -> io::Result<()> {
     for job in 0..6 {

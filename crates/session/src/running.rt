@@ -14,7 +14,7 @@ use stepping::{LINE_BYTES, take_step};
 #[derive(Clone, Copy, PartialEq, Eq)]
 pub struct ShortOutput;
 
-// kept: the output and the place in it, since a step is lent only the part that it may write.
+// kept: the output and the place in it: the writer of lines is private to `stepping`, and a step is lent only the part that it may write.
 /// Takes a step, and writes its line, ended by byte 10, from a place of the output on. Answers the place after it.
 fn step_into<B: Broadcast, K: DatabaseBank>(
     file: &RunFile<'_>,

@@ -23,13 +23,11 @@ impl<B: Broadcast, K: DatabaseBank> Ensemble<B, K> {
     pub fn new(mut broadcast: B, mut bank: K, servers: u64) -> Result<Ensemble<B, K>, Unmade<B, K>>
         ensures { Makes B.Broadcast K.ReplicaBank K.DatabaseBank.own broadcast bank servers result }
     {
-        // kept: two exits that hand both back, since `ok_or` would take them before the second test.
-        let Some(count) = ServerCount::new(servers) else {
+        let enough = servers <= bank.count();
+        // kept: an exit that hands both back; `ok_or` would take them also where there is a count.
+        let Some(count) = ServerCount::new(servers).filter(|_| enough) else {
             return Err(Unmade { broadcast, bank });
         };
-        if servers > bank.count() {
-            return Err(Unmade { broadcast, bank });
-        }
         broadcast.clear();
         bank.clear(servers);
         Ok(Ensemble {

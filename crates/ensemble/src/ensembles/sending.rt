@@ -62,8 +62,7 @@ impl<B: Broadcast, K: DatabaseBank> Ensemble<B, K> {
             &mut self.sent,
             server,
             Message::Epoch(message),
-        )?;
-        Ok(())
+        )
     }
 
     /// Orders one waiting message and answers its position.

@@ -1,4 +1,4 @@
-use Rattle.std.proofs.Common.{rules, ◌≡◌, ◌<◌, length, sym, ap, ◌∙◌, arith}
+use Rattle.std.proofs.Common.{rules, ◌≡◌, ◌<◌, length, sym, ap, arith}
 use Rattle.replica.specs.Meanings.{Meaning}
 use Rattle.ensemble.specs.Whole.{state}
 use Rattle.ensemble.proofs.Lifts.{db_of}

@@ -9,7 +9,7 @@ use Rattle.pronto.specs.Acts.{message_to_commit}
 use Rattle.pronto.specs.States.{with_messages, with_servers}
 use Rattle.replica.specs.Meanings.{upd}
 use Rattle.server.specs.Shown.{shown}
-use Rattle.ensemble.specs.Whole.{state, site_at, whole}
+use Rattle.ensemble.specs.Whole.{state, site_at}
 use Rattle.replica.proofs.Updates.{upd_self}
 use Rattle.ensemble.proofs.Lifts.{site_there, state_after}
 use Rattle.ensemble.proofs.Sent.{looked_refused, looked_found, sends_refused, sends_full, sends_free, sent_now, not_sent}

@@ -1,4 +1,4 @@
-use Rattle.std.proofs.Common.{◌≤◌, replicate, ap, ◌∙◌, arith}
+use Rattle.std.proofs.Common.{rules, ◌≡◌, ◌≤◌, replicate, ap, ◌∙◌}
 use Rattle.ensemble.specs.Whole.{whole}
 use Rattle.ensemble.proofs.Told.{new_whole}
 use Rattle.ensemble.proofs.ensembles.Ensemble.new.Goals as goal
@@ -6,8 +6,8 @@ use Rattle.ensemble.proofs.ensembles.Ensemble.new.Goals as goal
 pub returns : goal.returns
 returns g c =
     let n = c.args.servers in
-    let counted = c.in-Some.ensures in
-    let enough : n ≤ g.K.ReplicaBank.size = omega (arith, c.count.ensures) in
+    let counted : (1 ≤ n) × (n ≤ 8) × (c.in-Some.count.count ≡ n) = search rules in
+    let enough : n ≤ g.K.ReplicaBank.size = search rules in
     let b = c.clear.new.self in
     let k = c.clear-2.new.self in (
       (counted.0, counted.1, enough),

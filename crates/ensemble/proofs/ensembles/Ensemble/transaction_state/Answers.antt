@@ -1,4 +1,4 @@
-use Rattle.std.proofs.Common.{sym, ap, ◌∙◌, arith}
+use Rattle.std.proofs.Common.{ap, ◌∙◌, arith}
 use Rattle.pronto.specs.Servers.{Site}
 use Rattle.pronto.specs.Refusing.{find}
 use Rattle.server.specs.Looking.{state_found}
