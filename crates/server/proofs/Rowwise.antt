@@ -1,9 +1,8 @@
 -- Tables read as functions of the slot: a write is an update, and a search goes slot by slot.
-use Rattle.std.proofs.Common.{◌≡◌, ℕ, zero, suc, ◌+◌, ◌<◌, Bool, true, false, cond, List, length, get_or, set, Some, None, Option, sym, refl, ap, ◌∙◌, add-one, ◌==◌, ◌&&◌}
-use Rattle.std.specs.Bool.{then_some}
+use Rattle.std.proofs.Common.{◌≡◌, ℕ, zero, suc, ◌+◌, ◌<◌, ◌≤◌, Bool, true, false, cond, List, length, get_or, set, Some, None, Option, sym, refl, ap, ◌∙◌, add-one, ◌==◌, ◌&&◌, arith}
 use mathlib.Core.Path.{fun_ext}
 use native.Mathlib.Decide.{ℕ_discrete}
-use Rattle.std.proofs.lemmas.List.{get_or-set_same, get_or-set_other, get_or_default}
+use Rattle.std.proofs.lemmas.List.{get_or-set_same, get_or-set_other}
 use Rattle.replica.specs.Meanings.{upd, or_else}
 use Rattle.replica.proofs.Updates.{upd_same, upd_other}
 use Rattle.pronto.specs.Servers.{Work}
@@ -18,34 +17,31 @@ rows_set xs s x lt =
       | no n ↦ ap seen_row (get_or-set_other xs s j x None n) ∙ sym (upd_other (rows_of xs) s (seen_row x) j n)
     ])
 
-pub row_at : (xs : List (Option Row)) (i : ℕ) (d : Option Row) → i < length xs → rows_of xs i ≡ seen_row (get_or xs i d)
-row_at xs i d lt = ap seen_row (get_or_default xs i None d lt)
+-- whether a row is the transaction of this client's job
+abbrev pub named : ℕ → ℕ → Option Row → Bool
+named c k None = false
+named c k (Some r) = r.client == c && r.job == k
 
--- the row, where it is the transaction of this client's job
-abbrev pub named : ℕ → ℕ → Option Row → Option Row
-named c k None = None
-named c k (Some r) = then_some (r.client == c && r.job == k) r
+or_below_not : (c k p : ℕ) (below : Option (ℕ × Work)) (x : Option Row) → named c k x ≡ false → or_below c k (seen_row x) p below ≡ below
+or_below_not c k p below None e = refl
+or_below_not c k p below (Some x) e = rw e refl
 
-module _ (c k p : ℕ) (below : Option (ℕ × Work)) where
-  pub found_there : (x : Option Row) (r : Row) → named c k x ≡ Some r → or_below c k (seen_row x) p below ≡ Some (p, work_of r)
-  found_there None r e = cc
-  found_there (Some x) r e = by (names c k (work_of x)) e
-    where
-      by : (b : Bool) → then_some b x ≡ Some r → cond b (Some (p, work_of x)) below ≡ Some (p, work_of r)
-      by true h = cc
-      by false h = cc
-
-  pub not_there : (x : Option Row) → named c k x ≡ None → or_below c k (seen_row x) p below ≡ below
-  not_there None e = refl
-  not_there (Some x) e = by (names c k (work_of x)) e
-    where
-      by : (b : Bool) → then_some b x ≡ None → cond b (Some (p, work_of x)) below ≡ below
-      by true h = cc
-      by false h = refl
-
-pub seek_more : (rows : ℕ → Option Work) (c k i : ℕ) (x : Option Work) → rows i ≡ x → seek rows c k (i + 1) ≡ or_below c k x i (seek rows c k i)
+-- rows that are of other jobs change nothing in what a search finds
+pub seek_down : (xs : List (Option Row)) (c k i n : ℕ) → i ≤ n → ((p : ℕ) → i ≤ p → p < n → named c k (get_or xs p None) ≡ false)
+    → seek (rows_of xs) c k n ≡ seek (rows_of xs) c k i
 unfolding seek
-seek_more rows c k i x e = rw add-one (ap (λ y. or_below c k y i (seek rows c k i)) e)
+seek_down xs c k i zero l others = let e : 0 ≡ i = omega arith in ap (seek (rows_of xs) c k) e
+seek_down xs c k i (suc n) l others = elim (ℕ_discrete i (suc n)) [
+  | yes e ↦ ap (seek (rows_of xs) c k) (sym e)
+  | no m ↦
+      let rest = seek_down xs c k i n (omega (arith, m)) (λ p a b. others p a (omega arith)) in
+      or_below_not c k n (seek (rows_of xs) c k n) (get_or xs n None) (others n (omega (arith, m)) (omega arith)) ∙ rest
+]
+
+pub seek_there : (xs : List (Option Row)) (c k p : ℕ) (r : Row) → get_or xs p None ≡ Some r → named c k (Some r) ≡ true
+    → seek (rows_of xs) c k (p + 1) ≡ Some (p, work_of r)
+unfolding seek
+seek_there xs c k p r e t = rw (add-one, e, t) refl
 
 -- what a search finds stands in its slot
 pub seek_row : (rows : ℕ → Option Work) (c k n p : ℕ) (w : Work) → seek rows c k n ≡ Some (p, w) → rows p ≡ Some w

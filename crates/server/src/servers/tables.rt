@@ -19,17 +19,15 @@ impl Server {
         Some(Slot { index })
     }
 
+    // kept: a message and a row hold client and job apart, as the definitions do.
     /// The transaction of a client's job, with its slot.
     pub(crate) fn find(&self, client: u8, job: u32) -> Option<(Slot, Row)>
         ensures { found_of result ≡ seek (rows_of self.now.rows) client job 8 }
     {
-        let mut found = None;
-        for (index, entry) in self.rows.iter().enumerate() {
-            if let Some(row) = entry.filter(|row| row.client == client && row.job == job) {
-                found = Some((Slot { index }, row));
-            }
-        }
-        found
+        let named = |row: Row| row.client == client && row.job == job;
+        let index = self.rows.iter().rposition(|entry| entry.is_some_and(named))?;
+        let row = self.rows[index]?;
+        Some((Slot { index }, row))
     }
 
     /// Has this row in a slot.

@@ -1,24 +1,24 @@
-use Rattle.std.proofs.Common.{◌≡◌, get_or, sym, refl, ap, ◌∙◌, arith, rules}
+use Rattle.std.proofs.Common.{◌≡◌, ℕ, ◌+◌, ◌<◌, ◌≤◌, true, false, Some, None, get_or, sym, ◌∙◌, arith, rules}
 use Rattle.pronto.specs.Refusing.{seek}
-use Rattle.server.specs.Shown.{rows_of}
-use Rattle.server.specs.Looking.{found_of}
-use Rattle.server.proofs.Rowwise.{row_at, seek_more, named, found_there, not_there}
+use Rattle.server.proofs.Rowwise.{named, seek_down, seek_there}
 use Rattle.server.proofs.servers.Server.find.Goals as goal
-use Rattle.server.proofs.servers.Server.find.Goals.{in-Some, in_default}
 
-pub loop-index-init : goal.loop-index-init
+pub returns-in_err-index : goal.returns-in_err-index
 unfolding seek
-loop-index-init c = refl
-
-pub loop-index-preserved : goal.loop-index-preserved
-loop-index-preserved c =
+returns-in_err-index c =
     let a = c.args in
     let xs = a.self.now.rows in
-    let i = c.loop-index.index in
-    let x = get_or xs i c.entry-item.result in
-    let told : c.filter.result ≡ named a.client a.job x = search rules in
-    let more = seek_more (rows_of xs) a.client a.job i _ (row_at xs i c.entry-item.result (omega arith)) in
-    elim c.match-filter.branch [
-      | in-Some w ↦ ap found_of w.found-is ∙ sym (more ∙ found_there _ _ _ _ x w.in-Some.row (sym told ∙ w.in-Some.is))
-      | in_default w ↦ ap found_of w.found-is ∙ c.loop-index.invariant ∙ sym (more ∙ not_there _ _ _ _ x (sym told ∙ w.in_default.is))
-    ]
+    let others : (p : ℕ) → 0 ≤ p → p < 8 → named a.client a.job (get_or xs p None) ≡ false = λ p l h. search rules in
+    rw c.from_residual.ensures (sym (seek_down xs a.client a.job 0 8 (omega arith) others))
+
+pub returns : goal.returns
+returns c =
+    let a = c.args in
+    let xs = a.self.now.rows in
+    let i = c.in_ok-index.index in
+    let row = c.in_ok-row.row in
+    let above : i + 1 ≤ 8 = search rules in
+    let there : get_or xs i None ≡ Some row = search rules in
+    let own : named a.client a.job (get_or xs i None) ≡ true = search rules in
+    let others : (p : ℕ) → i + 1 ≤ p → p < 8 → named a.client a.job (get_or xs p None) ≡ false = λ p l h. search rules in
+    sym (seek_down xs a.client a.job (i + 1) 8 above others ∙ seek_there xs a.client a.job i row there (rw there at own))
