@@ -10,11 +10,10 @@ impl ServerCount {
     pub fn new(count: u64) -> Option<ServerCount>
         ensures { Counted result count }
     {
-        if (1..=SERVERS as u64).contains(&count) {
-            Some(ServerCount { count: count as u8 })
-        } else {
-            None
-        }
+        let count = u8::try_from(count)
+            .ok()
+            .filter(|count| (1..=SERVERS as u8).contains(count))?;
+        Some(ServerCount { count })
     }
 
     /// The number.
