@@ -5,7 +5,7 @@ ghost use Rattle.pronto.specs.Refusing.{first, begin_table, run_table, open_tabl
 ghost use Rattle.pronto.specs.Delivering.{deliver_table, own_at};
 ghost use Rattle.server.specs.Shown.{rows_of, shown};
 ghost use Rattle.server.specs.Outcomes.{asks};
-ghost use Rattle.server.specs.Looking.{Looks, Admits, Reaches, slot_of, FreeIn, Found, Runnable, Next, Nothing};
+ghost use Rattle.server.specs.Looking.{Looks, Runs, Admits, Reaches, slot_of, FreeIn, Found, Runnable, Next, Nothing};
 
 use super::Server;
 use crate::counts::ServerCount;
@@ -23,9 +23,7 @@ impl Server {
     fn admit(&self, client: u8) -> Result<(), ServerFault>
         ensures { Admits self.now client result }
     {
-        if !self.running {
-            return Err(ServerFault::Stopped);
-        }
+        self.look_running()?;
         if client > LAST_CLIENT {
             return Err(ServerFault::NoClient);
         }
@@ -98,9 +96,7 @@ impl Server {
     ) -> Result<(&'b Message, Judgement), ServerFault>
         ensures { (m : Meaning) → Looks result (first (deliver_table (B.Broadcast.log broadcast.now) (shown self.now m))) (Next (B.Broadcast.log broadcast.now) (shown self.now m)) }
     {
-        if !self.running {
-            return Err(ServerFault::Stopped);
-        }
+        self.look_running()?;
         let message = broadcast
             .message_at(self.delivered)
             .map_err(|_| ServerFault::AllDelivered)?;
@@ -108,9 +104,9 @@ impl Server {
         Ok((message, judgement))
     }
 
-    /// Nothing more: for a suspect and a stop, the server runs.
+    /// Only that the server runs: for a suspect and a stop, and first of all for the other acts but start.
     pub(crate) fn look_running(&self) -> Result<(), ServerFault>
-        ensures { (m : Meaning) → Looks result (first (running_table (shown self.now m))) Nothing }
+        ensures { Runs self.now result }
     {
         if !self.running {
             return Err(ServerFault::Stopped);

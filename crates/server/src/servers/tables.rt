@@ -25,7 +25,10 @@ impl Server {
         ensures { found_of result ≡ seek (rows_of self.now.rows) client job 8 }
     {
         let named = |row: Row| row.client == client && row.job == job;
-        let index = self.rows.iter().rposition(|entry| entry.is_some_and(named))?;
+        let index = self
+            .rows
+            .iter()
+            .rposition(|entry| entry.is_some_and(named))?;
         let row = self.rows[index]?;
         Some((Slot { index }, row))
     }

@@ -13,4 +13,4 @@ returns g c = λ m.
     let here : nth l p ≡ Some (msg_of c.in_ok-message.message.now) = search rules in
     let told : judged_there l p (nth l p) ≡ Some (judged_of c.in_ok-judgement.judgement) = search rules in
     let told_here = rw here at told in
-    rw (c.if-not-self.false, here) (refl, (refl, (cc)))
+    rw (c.in_ok-look_running.ensures, here) (refl, (refl, (cc)))
