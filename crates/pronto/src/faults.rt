@@ -1,8 +1,11 @@
 //! Why a server turns an act down.
 ghost use Rattle.std.specs.Prelude.{◌≡◌};
 ghost use Rattle.pronto.specs.Numbers.{fault_number, passed_up};
+ghost use Rattle.pronto.specs.declared.faults.ServerFault.TheVariants as faults;
 
+use broadcast::NotOrdered;
 use replica::Fault;
+use statement::Missing;
 
 /// The refusals of one server (docs/refusals.md has their numbers). A refused act changes nothing.
 #[derive(Clone, Copy, PartialEq, Eq, Debug)]
@@ -52,6 +55,24 @@ impl From<Fault> for ServerFault {
             Fault::LastPosition => ServerFault::Torn,
             Fault::NoDatabase => ServerFault::Torn,
         }
+    }
+}
+
+/// A statement that names no cell or member is turned down.
+impl From<Missing> for ServerFault {
+    ghost from_gives = { λ _ served. served ≡ faults.NoCell };
+
+    fn from(_missing: Missing) -> ServerFault {
+        Self::NoCell
+    }
+}
+
+/// Where no message is ordered at the delivered count, all are delivered.
+impl From<NotOrdered> for ServerFault {
+    ghost from_gives = { λ _ served. served ≡ faults.AllDelivered };
+
+    fn from(_ordered: NotOrdered) -> ServerFault {
+        Self::AllDelivered
     }
 }
 

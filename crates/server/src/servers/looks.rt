@@ -72,7 +72,7 @@ impl Server {
         ensures { (m : Meaning) → Looks result (first (run_table (shown self.now m) id.client id.job cell operation)) (Runnable cell operation (find (shown self.now m) id.client id.job)) }
     {
         self.admit(id.client)?;
-        let statement = Statement::new(cell, operation).map_err(|_| ServerFault::NoCell)?;
+        let statement = Statement::new(cell, operation)?;
         let transaction = self.reach(id, Arrival::Run)?;
         if transaction.row.notes.len() >= STATEMENTS {
             return Err(ServerFault::Long);
@@ -97,10 +97,8 @@ impl Server {
         ensures { (m : Meaning) → Looks result (first (deliver_table (B.Broadcast.log broadcast.now) (shown self.now m))) (Next (B.Broadcast.log broadcast.now) (shown self.now m)) }
     {
         self.look_running()?;
-        let message = broadcast
-            .message_at(self.delivered)
-            .map_err(|_| ServerFault::AllDelivered)?;
-        let judgement = judge(broadcast, self.delivered).map_err(|_| ServerFault::AllDelivered)?;
+        let message = broadcast.message_at(self.delivered)?;
+        let judgement = judge(broadcast, self.delivered)?;
         Ok((message, judgement))
     }
 
