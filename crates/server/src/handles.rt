@@ -1,4 +1,4 @@
-//! What a delivered message does to a server's database, and what to its server.
+//! What a delivered message does to a server's database, and how its server advances.
 ghost use Rattle.std.specs.Prelude.{ℕ};
 ghost use Rattle.message.specs.Messages.{msg_of, tx_of, transaction};
 ghost use Rattle.journal.specs.Judging.{committed, again};

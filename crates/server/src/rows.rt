@@ -39,7 +39,7 @@ impl Row {
 }
 
 impl Open {
-    /// What its slot holds once that has become of it.
+    /// What the slot holds after the outcome.
     pub fn left(self) -> Option<Row>
         ensures { seen_row result ≡ row_after self.outcome self.row }
     {

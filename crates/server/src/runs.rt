@@ -9,6 +9,7 @@ use pronto::{ServerFault, TransactionId};
 use statement::Operation;
 
 /// Runs the operation on the cell in the transaction of a client's job, notes it, and answers its result.
+/// The server that the id names is not looked at.
 ///
 /// Refused where the server is stopped, the client, the cell or the member does not exist, the job is not open, it is committing or has
 /// six statements, or the database is busy.
@@ -39,7 +40,7 @@ pub fn run<K: DatabaseBank>(
     Ok(result)
 }
 
-/// Undoes the transaction of a client's job and removes it.
+/// Undoes the transaction of a client's job and removes it. The server that the id names is not looked at.
 ///
 /// Refused where the server is stopped, the client does not exist, the job is not open, or it is committing.
 pub fn abort<K: DatabaseBank>(

@@ -30,6 +30,7 @@ impl Server {
     }
 
     /// The client's job is committing from now on: its message is offered. Nothing changes where it is not open.
+    /// The server that the id names is not looked at.
     pub fn send_off(&mut self, id: TransactionId)
         ensures { (m : Meaning) → shown self.new m ≡ commit_after (shown self.old m) id.client id.job }
     {

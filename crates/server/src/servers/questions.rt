@@ -46,7 +46,7 @@ impl Server {
         self.delivered
     }
 
-    /// How far the transaction of a client's job is; `None` exactly where there is none.
+    /// How far the transaction of a client's job is; `None` exactly where there is none. The server that the id names is not looked at.
     pub fn transaction_state(&self, id: TransactionId) -> Option<State>
         ensures { (m : Meaning) → state_told result ≡ state_found (find (shown self.now m) id.client id.job) }
     {
