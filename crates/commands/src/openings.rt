@@ -54,6 +54,7 @@ pub enum Opening {
 }
 
 /// The opening that a word spells; `None` where it spells none.
+// kept: a public function; as a `TryFrom` it would need a refusal that says no more than `None`.
 pub fn opening_of(word: &[u8]) -> Option<Opening>
     ensures { MatchOption result ((o : Opening) → word.now ≢ opening_text o) (λ o. word.now ≡ opening_text o) }
 {

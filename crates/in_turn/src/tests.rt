@@ -1,4 +1,5 @@
 //! Lines that are empty, full, shared and taken in turn. A message is known by its epoch.
+// kept: two tests have the shape of two of `oldest_first`; a helper for both would need a crate of its own.
 use crate::InTurn;
 use crate::lines::ordering::CAPACITY;
 use broadcast::Broadcast;

@@ -27,6 +27,7 @@ struct Standing {
 
 impl Standing {
     /// One message further, the one at `position`.
+    // kept: client and job as two, here and in `before`: a message holds them apart, and the act's name for both lies in a crate above.
     fn past(self, position: u64, message: &Message, client: u8, job: u32) -> Standing
         requires { self.epoch ≤ 4096 }
         ensures slow { result.epoch ≤ self.epoch + 1 }

@@ -1,4 +1,5 @@
 //! A row that is empty, full and in between.
+// kept: two tests have the shape of two of `in_turn`; a helper for both would need a crate of its own.
 use crate::OldestFirst;
 use crate::rows::ordering::CAPACITY;
 use broadcast::Broadcast;

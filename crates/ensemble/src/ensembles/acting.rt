@@ -11,6 +11,7 @@ use pronto::{Refusal, TransactionId};
 use server::{abort, begin, deliver, run, start, stop};
 use statement::Operation;
 
+// kept: each act finds its server, calls and passes the outcome up. A function over a closure would have to state each act's clause again.
 impl<B: Broadcast, K: DatabaseBank> Ensemble<B, K> {
     /// Opens a transaction of a client's job at a server, in a free slot.
     ///
