@@ -76,7 +76,9 @@ parsed bs (Err e) h short plain = λ n w.
 
 -- a written number is text
 pub number_utf8 : (n : ℕ) (bs : List ℕ) → Writes n bs → IsUtf8 bs
-number_utf8 n bs w = let s = shape n bs w in IsUtf8-from_ascii bs (IsAscii-from_reads bs (length bs) (le_refl _) (λ k lt. omega (arith, digit_at bs k s.digits lt)))
+number_utf8 n bs w =
+    let s = shape n bs w in
+    IsUtf8-from_ascii bs (IsAscii-from_reads bs (length bs) (le_refl _) (λ k lt. omega (arith, digit_at bs k s.digits lt)))
 
 -- what begins with a letter writes no number
 pub no_letter : (n : ℕ) (bs : List ℕ) → Writes n bs → 97 ≤ get_or bs 0 0 → ⊥

@@ -149,7 +149,8 @@ pub leftover_stops :
 leftover_stops ns text count first number ls rest a e all at some =
     let long = length-map ls own in
     let f : FileFault = record { why = why.Leftover; line = number } in
-    stopped ns text count first ls rest f a e (omega (arith, long)) (λ less. absurd (omega (arith, long, less))) (omega (arith, long), some) (omega (arith, long))
+    stopped ns text count first ls rest f a e (omega (arith, long)) (λ less. absurd (omega (arith, long, less))) (omega (arith, long), some)
+    (omega (arith, long))
 
 -- the names stop after these
 pub names_stop :

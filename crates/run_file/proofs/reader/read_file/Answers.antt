@@ -27,6 +27,7 @@ pub returns-clause-read : goal.returns-clause-read
 returns-clause-read c =
     let one = c.in_ok-count.ensures in
     let P : List (Bor (List ℕ)) → Type 0 = λ ns.
-    StepsRead (texts ns) c.in_ok-steps.rest.now c.in_ok-steps.steps (c.in_ok-count.count + 2 + 1) c.read_steps.result (vec_items c.read_steps.new.lines) in
+    StepsRead (texts ns) c.in_ok-steps.rest.now c.in_ok-steps.steps (c.in_ok-count.count + 2 + 1) c.read_steps.result
+    (vec_items c.read_steps.new.lines) in
     steps_outcome _ _ _ _ _ _ _ _ _ c.if-text-gt-BYTES.false one.0 one.1 c.in_ok-rest.ensures.read c.in_ok-steps.ensures
     (subst P c.as_slice.ensures.value c.read_steps.ensures.read)

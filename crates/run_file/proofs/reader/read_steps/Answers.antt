@@ -25,7 +25,8 @@ returns-in_err-command-clause-read c =
     let cuts = MatchOption-at_some _ _ _ (was_some c.cut.result _ _ c.in_ok-line.ensures.value) c.cut.ensures.text in
     let w = was_none c.parse.result _ _ c.in_err-command.ensures.value in
     let none = no_command_line _ _ cuts.0 cuts.1 (MatchOption-at_none _ _ w.0 c.parse.ensures) in
-    rw (p.1, p.2, w.1, c.at-in-loop-number.ensures) (no_command_stops _ _ _ _ _ (vec_items c.loop-number.lines) _ inv.good inv.split inv.place (omega arith) none)
+    rw (p.1, p.2, w.1, c.at-in-loop-number.ensures)
+    (no_command_stops _ _ _ _ _ (vec_items c.loop-number.lines) _ inv.good inv.split inv.place (omega arith) none)
 
 pub returns-in_err-step-clause-read : goal.returns-in_err-step-clause-read
 returns-in_err-step-clause-read c =
@@ -54,7 +55,9 @@ loop-number-preserved c =
     record {
       place = omega (arith, ap length items, length-append ls (l ∷ []), inv.place);
       good = subst (AllSay ns) (sym items) (say_more ns ls l inv.good says);
-      split = ended_more (map own ls) _ _ inv.split cuts.1 ∙ ap (λ (ks : List (List ℕ)). ended ks c.in_ok-line.after.now) (sym (ap (map own) items ∙ map_more own ls l));
+      split =
+          ended_more (map own ls) _ _ inv.split cuts.1
+          ∙ ap (λ (ks : List (List ℕ)). ended ks c.in_ok-line.after.now) (sym (ap (map own) items ∙ map_more own ls l));
       room = omega (arith, c.push_reserved.ensures.capacity, inv.room);
     }
 

@@ -9,4 +9,5 @@ pub returns-in_ok-id-in-Job : goal.returns-in_ok-id-in-Job
 returns-in_ok-id-in-Job c =
     let told = c.in_ok-id-in-Job.ensures in
     let id = c.in_ok-id-in-Job.field-0 in
-    rw c.in-Job.is (id.client, told.0, ap (λ (a : Act). step.Act a) (c.job_act.ensures ∙ ap (λ (t : TransactionId). act_of_job c.in-Job.verb t) told.1))
+    rw c.in-Job.is
+    (id.client, told.0, ap (λ (a : Act). step.Act a) (c.job_act.ensures ∙ ap (λ (t : TransactionId). act_of_job c.in-Job.verb t) told.1))
