@@ -24,9 +24,7 @@ impl Database for Deferred {
     }
 
     fn run(&mut self, slot: usize, statement: &Statement) -> Result<u64, Fault> {
-        if !slots::is_open(&self.slots, slot) {
-            return Err(Fault::SlotClosed);
-        }
+        slots::expect_open(&self.slots, slot)?;
         let cell = statement.cell();
         if self.is_busy(slot, statement) {
             return Err(Fault::Busy(cell));
@@ -46,9 +44,7 @@ impl Database for Deferred {
     }
 
     fn seal(&mut self, slot: usize, position: u64) -> Result<(), Fault> {
-        if !slots::is_open(&self.slots, slot) {
-            return Err(Fault::SlotClosed);
-        }
+        slots::expect_open(&self.slots, slot)?;
         let next = position.checked_add(1).ok_or(Fault::LastPosition)?;
         self.cells = self.seen(slot);
         self.mark = next;
@@ -57,9 +53,7 @@ impl Database for Deferred {
     }
 
     fn undo(&mut self, slot: usize) -> Result<(), Fault> {
-        if !slots::is_open(&self.slots, slot) {
-            return Err(Fault::SlotClosed);
-        }
+        slots::expect_open(&self.slots, slot)?;
         self.close(slot);
         Ok(())
     }

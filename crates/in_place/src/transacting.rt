@@ -25,9 +25,7 @@ impl Database for InPlace {
     }
 
     fn run(&mut self, slot: usize, statement: &Statement) -> Result<u64, Fault> {
-        if !slots::is_open(&self.slots, slot) {
-            return Err(Fault::SlotClosed);
-        }
+        slots::expect_open(&self.slots, slot)?;
         if self.is_busy(slot, statement) {
             return Err(Fault::Busy(statement.cell()));
         }
@@ -41,9 +39,7 @@ impl Database for InPlace {
     }
 
     fn seal(&mut self, slot: usize, position: u64) -> Result<(), Fault> {
-        if !slots::is_open(&self.slots, slot) {
-            return Err(Fault::SlotClosed);
-        }
+        slots::expect_open(&self.slots, slot)?;
         let next = position.checked_add(1).ok_or(Fault::LastPosition)?;
         release_all(&mut self.formers, slot);
         self.slots[slot] = None;
@@ -52,9 +48,7 @@ impl Database for InPlace {
     }
 
     fn undo(&mut self, slot: usize) -> Result<(), Fault> {
-        if !slots::is_open(&self.slots, slot) {
-            return Err(Fault::SlotClosed);
-        }
+        slots::expect_open(&self.slots, slot)?;
         restore_all(&mut self.cells, &self.formers, slot);
         release_all(&mut self.formers, slot);
         self.slots[slot] = None;

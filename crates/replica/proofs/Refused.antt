@@ -1,5 +1,5 @@
 -- Which refusal there is, from what was tested.
-use Rattle.std.proofs.Common.{◌≡◌, ℕ, ◌+◌, ◌^◌, ◌<◌, ◌≤◌, Bool, true, false, not, ltb, Some, None, Ok, Err, Option, Result, ap, ◌∙◌, arith}
+use Rattle.std.proofs.Common.{◌≡◌, ℕ, ◌+◌, ◌^◌, ◌<◌, ◌≤◌, Bool, true, false, cond, not, ltb, Some, None, Ok, Err, Option, Result, refl, ap, ◌∙◌, arith}
 use Rattle.std.specs.Option.{SomeIff, ok_or}
 use Rattle.std.proofs.lemmas.Bool.{cond-true, cond-false, lt-ltb, le-ltb, eq-eqb, ne_eqb}
 use Rattle.statement.specs.declared.checked.Statement.{Statement}
@@ -65,6 +65,22 @@ module _ (m : Meaning) (s : ℕ) where
   pub intake_free : (p : ℕ) (b : Bool) → quiet m ≡ not b → b ≡ false → (p ≡ 18446744073709551615 → ⊥) → intake_refusal m p ≡ None
   unfolding intake_refusal
   intake_free p b e h n = cond-true (quiet m) _ _ (e ∙ ap not h) ∙ cond-false (last p) _ _ (ne_eqb p 18446744073709551615 n)
+
+-- whether the slot is open, from what `expect_open` answers
+module _ {b : Bool} {r : Result (Unit {0}) Fault} (told : r ≡ cond b (Ok tt) (Err SlotClosed)) where
+  pub shut_is : {e : Fault} → r ≡ Err e → (b ≡ false) × (e ≡ SlotClosed)
+  shut_is {e = e} was = by b told
+    where
+      by : (a : Bool) → r ≡ cond a (Ok tt) (Err SlotClosed) → (a ≡ false) × (e ≡ SlotClosed)
+      by true h = cc
+      by false h = (refl, cc)
+
+  pub open_was : {u : Unit {0}} → r ≡ Ok u → b ≡ true
+  open_was was = by b told
+    where
+      by : (a : Bool) → r ≡ cond a (Ok tt) (Err SlotClosed) → a ≡ true
+      by true h = refl
+      by false h = cc
 
 -- one past the position, where it has a successor
 module _ (p : ℕ) (fits : p < 2 ^ 64) where

@@ -1,23 +1,26 @@
 use Rattle.std.proofs.Common.{◌≡◌, length, get_or, Some, None, sym, refl, ap, ◌∙◌, rules}
+use Rattle.std.proofs.lemmas.Result.{err_from_is_err_and}
 use Rattle.statement.specs.Operations.{writes_cell, changed, answered}
 use Rattle.replica.specs.declared.faults.Fault.TheVariants.{Busy}
-use Rattle.replica.proofs.Refused.{run_closed, run_busy, run_free}
+use Rattle.replica.proofs.Refused.{shut_is, open_was, run_closed, run_busy, run_free}
 use Rattle.replica.proofs.Ran.{ran_answer, ran_write, ran_look}
 use Rattle.in_place.specs.State.{meaning_of, same_unit}
 use Rattle.in_place.proofs.Means.{open_is}
 use Rattle.in_place.proofs.Moves.{open_holds, current_is}
 use Rattle.in_place.proofs.transacting.InPlaceDatabase.run.Goals as goal
 
-pub returns-then-not-is_open : goal.returns-then-not-is_open
-returns-then-not-is_open c =
+pub returns-in_err-expect_open : goal.returns-in_err-expect_open
+returns-in_err-expect_open c =
     let d = c.args.self.now in
-    (run_closed (meaning_of d) c.args.slot same_unit c.args.statement.now (open_is d c.args.slot ∙ sym c.if-not-is_open.ensures), refl)
+    let p = err_from_is_err_and c.from_residual.result c.from_residual.ensures.1 in
+    let why = shut_is c.expect_open.ensures c.in_err-expect_open.was in
+    rw (p.1, p.2, why.1) (run_closed (meaning_of d) c.args.slot same_unit c.args.statement.now (open_is d c.args.slot ∙ why.0), refl)
 
 pub returns-then-is_busy : goal.returns-then-is_busy
 returns-then-is_busy c =
     let d = c.args.self.now in
     let s = c.args.slot in (
-      run_busy (meaning_of d) s same_unit c.args.statement.now (open_is d s ∙ sym c.if-not-is_open.ensures) (sym c.if-is_busy.ensures)
+      run_busy (meaning_of d) s same_unit c.args.statement.now (open_is d s ∙ open_was c.expect_open.ensures c.in_ok-expect_open.was) (sym c.if-is_busy.ensures)
           ∙ ap (λ k. Some (Busy k)) (sym c.cell.ensures.value),
       refl,
     )
@@ -29,9 +32,9 @@ returns-then-writes c =
     let s = c.args.slot in
     let st = c.args.statement.now in
     let same = c.cell-2.ensures.value in
-    let was = sym c.if-not-is_open.ensures in
-    let free = sym c.if-is_busy.ensures in
     let long : length d.slots ≡ 8 = search rules in
+    let was = open_was c.expect_open.ensures c.in_ok-expect_open.was in
+    let free = sym c.if-is_busy.ensures in
     let held = open_holds (get_or d.slots s None) was in
     let seen = ap (λ k. get_or d.cells k 0) same ∙ sym (current_is d long s held.0 held.1 st.cell (writes_cell st.operation) free) in (
       run_free m s same_unit st (open_is d s ∙ was) free,
@@ -46,9 +49,9 @@ returns-else-writes c =
     let s = c.args.slot in
     let st = c.args.statement.now in
     let same = c.cell-2.ensures.value in
-    let was = sym c.if-not-is_open.ensures in
-    let free = sym c.if-is_busy.ensures in
     let long : length d.slots ≡ 8 = search rules in
+    let was = open_was c.expect_open.ensures c.in_ok-expect_open.was in
+    let free = sym c.if-is_busy.ensures in
     let held = open_holds (get_or d.slots s None) was in
     let seen = ap (λ k. get_or d.cells k 0) same ∙ sym (current_is d long s held.0 held.1 st.cell (writes_cell st.operation) free) in (
       run_free m s same_unit st (open_is d s ∙ was) free,
