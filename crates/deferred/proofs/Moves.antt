@@ -1,11 +1,14 @@
 -- What each call makes of the meaning, from what it makes of the cells, the slots and the mark.
-use Rattle.std.proofs.Common.{◌≡◌, ℕ, ◌+◌, ◌<◌, Bool, true, false, cond, eqb, List, length, get_or, set, replicate, is_some, not, Some, None, Option, sym, refl, ap, ◌∙◌, ⊎_elim, arith}
+use Rattle.std.proofs.Common.{◌≡◌, ℕ, ◌+◌, ◌<◌, Bool, true, false, cond, eqb, List, length, get_or, set, replicate, is_some, not, Some, None, Ok, Err, Option, Result, sym, refl, ap, ◌∙◌, ⊎_elim, arith}
 use mathlib.Core.Path.{fun_ext}
 use Rattle.std.proofs.lemmas.List.{get_or_past}
 use Rattle.std.proofs.lemmas.Bool.{cases_lt, true≢false}
 use Rattle.statement.specs.declared.checked.Statement.{Statement}
 use Rattle.replica.specs.Meanings.{Slot, put, is_open, quiet, any_below, slot_of, current, fresh, or_else, all_stepped}
+use Rattle.replica.specs.declared.faults.Fault.{Fault}
+use Rattle.replica.specs.Outcomes.{Opens, OpensWith}
 use Rattle.replica.specs.Calls.{cleared, taken_in, opened, written_into, looked_at, sealed, undone, lost}
+use Rattle.replica.proofs.Refused.{open_free, open_told}
 use Rattle.replica.proofs.Indices.{set_at, all_same}
 use Rattle.replica.proofs.Same.{same_meaning}
 use Rattle.deferred.specs.declared.transaction.Transaction.{Transaction}
@@ -88,3 +91,10 @@ module _ (cells : List ℕ) (slots : List (Option Transaction)) (mark : ℕ) whe
         let m = means cells slots mark in
         same_meaning (means cells (set slots s (Some w)) mark) (looked_at unit_of_eight m s c) (λ k. refl) refl
         (kept w (with_read (slot_of m s) (unit_of_eight c)) (e ∙ ap (λ x. with_read x (unit_of_eight c)) (sym (slot_is s t is))))
+
+  -- open, refused or not
+  pub opens_means : (s : ℕ) → length slots ≡ 8 → (w : Transaction) → shown w ≡ fresh → (r : Result (Unit {0}) Fault) (after : List (Option Transaction))
+      → OpensWith w r s slots after → Opens r s (means cells slots mark) (means cells after mark)
+  opens_means s long w e (Ok v) after (low, shut, is) =
+      (open_free (means cells slots mark) s low (open_is cells slots mark s ∙ shut), tt, ap (λ x. means cells x mark) is ∙ open_means s low long w e)
+  opens_means s long w e (Err f) after (why, same) = (open_told (means cells slots mark) s _ (open_is cells slots mark s) ∙ why, ap (λ x. means cells x mark) same)

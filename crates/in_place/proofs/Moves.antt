@@ -1,12 +1,15 @@
 -- What each call leaves of the state means what the call is to leave.
-use Rattle.std.proofs.Common.{◌≡◌, ℕ, ◌+◌, ◌<◌, Bool, true, false, cond, not, ◌&&◌, ◌||◌, eqb, ◌≢◌, List, length, get_or, set, replicate, is_some, Some, None, Option, sym, refl, ap, ◌∙◌, subst, ⊎_elim, arith}
+use Rattle.std.proofs.Common.{◌≡◌, ℕ, ◌+◌, ◌<◌, Bool, true, false, cond, not, ◌&&◌, ◌||◌, eqb, ◌≢◌, List, length, get_or, set, replicate, is_some, Some, None, Ok, Err, Option, Result, sym, refl, ap, ◌∙◌, subst, ⊎_elim, arith}
 use mathlib.Core.Path.{fun_ext}
 use Rattle.std.specs.Option.{option_map}
 use Rattle.std.proofs.lemmas.List.{get_or-set_same, get_or-set_other}
 use Rattle.std.proofs.lemmas.Bool.{cases_eq, eq-eqb, ne_eqb, true≢false, cond-true, cond-false}
 use Rattle.statement.specs.declared.checked.Statement.{Statement}
 use Rattle.replica.specs.Meanings.{Meaning, Slot, put, any_below, is_open, slot_of, current, all_stepped, excludes, busy, fresh, or_else}
+use Rattle.replica.specs.declared.faults.Fault.{Fault}
+use Rattle.replica.specs.Outcomes.{Opens, OpensWith}
 use Rattle.replica.specs.Calls.{taken_in, opened, written_into, looked_at, sealed, undone, lost}
+use Rattle.replica.proofs.Refused.{open_free, open_told}
 use Rattle.replica.proofs.Indices.{any_none, all_same}
 use Rattle.replica.proofs.Same.{same_meaning, same_slot}
 use Rattle.in_place.specs.declared.former.Former.{Former}
@@ -15,7 +18,7 @@ use Rattle.in_place.specs.Reads.{holds}
 use Rattle.in_place.specs.declared.state.InPlace.{InPlace}
 use Rattle.in_place.specs.Parts.{means, held_by_open, committed, written_by, own_of, shown_slot, released, restored}
 use Rattle.in_place.specs.State.{meaning_of, same_unit}
-use Rattle.in_place.proofs.Means.{Held, open_is, open_below, all_closed, none_held}
+use Rattle.in_place.proofs.Means.{Held, open_is, none_is, open_below, all_closed, none_held}
 use Rattle.in_place.proofs.Closing.{sealed_cell, undone_cell, other_writes, other_own, other_kept}
 
 -- slot t, open or not
@@ -69,6 +72,11 @@ held_more slots s reads inside (Some f) h = ⊎_elim
 pub open_held : (formers : List (Option Former)) (slots : List (Option ReadSet)) (s : ℕ) (reads : ReadSet) → s < length slots → Held formers slots → Held formers (set slots s (Some reads))
 open_held formers slots s reads inside held c = held_more slots s reads inside (get_or formers c None) (held c)
 
+pub opens_held : (formers : List (Option Former)) (slots : List (Option ReadSet)) (s : ℕ) (row : ReadSet) → length slots ≡ 8 → Held formers slots
+    → (r : Result (Unit {0}) Fault) (after : List (Option ReadSet)) → OpensWith row r s slots after → Held formers after
+opens_held formers slots s row long held (Ok v) after (low, shut, is) = let inside : s < length slots = omega arith in rw is (open_held formers slots s row inside held)
+opens_held formers slots s row long held (Err e) after (why, same) = rw same held
+
 pub intake_means : (d : InPlace) (after : List ℕ) (p : ℕ) (sts : List Statement) → length d.slots ≡ 8 → any_below 8 (λ s. is_some (get_or d.slots s None)) ≡ false → (λ c. get_or after c 0) ≡ all_stepped (λ c. get_or d.cells c 0) sts → means after d.formers d.slots (p + 1) ≡ taken_in (meaning_of d) sts p
 unfolding taken_in
 intake_means d after p sts long none ran =
@@ -106,6 +114,12 @@ module _ (d : InPlace) (long : length d.slots ≡ 8) (s : ℕ) where
       (ap (option_map (shown_slot cells formers s)) (get_or-set_same slots s (Some row) None inside)
       ∙ ap Some (same_slot (shown_slot cells formers s row) fresh empty none (λ c. own_none s (get_or formers c None) (get_or cells c 0) (none c))))
       (λ t n. ap (option_map (shown_slot cells formers t)) (get_or-set_other slots s t (Some row) None n)))
+
+  pub opens_means : (row : ReadSet) → ((u : ℕ) → holds row u ≡ false) → (r : Result (Unit {0}) Fault) (after : List (Option ReadSet))
+      → OpensWith row r s slots after → Opens r s m (means cells formers after d.mark)
+  opens_means row empty (Ok v) after (low, shut, is) =
+      (open_free m s low (open_is d s ∙ shut), tt, ap (λ x. means cells formers x d.mark) is ∙ open_means low (none_is _ shut) row empty)
+  opens_means row empty (Err e) after (why, same) = (open_told m s _ (open_is d s) ∙ why, ap (λ x. means cells formers x d.mark) same)
 
   -- an open slot is as it is shown
   slot_is : (t : ℕ) (reads : ReadSet) → get_or slots t None ≡ Some reads → slot_of m t ≡ shown_slot cells formers t reads

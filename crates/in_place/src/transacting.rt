@@ -14,14 +14,7 @@ impl Database for InPlace {
     ghost below = { λ c low. omega arith };
 
     fn open(&mut self, slot: usize) -> Result<(), Fault> {
-        if slot >= SLOTS {
-            return Err(Fault::NoSlot);
-        }
-        if slots::is_open(&self.slots, slot) {
-            return Err(Fault::SlotOpen);
-        }
-        self.slots[slot] = Some(ReadSet::new());
-        Ok(())
+        slots::open(&mut self.slots, slot, ReadSet::new())
     }
 
     fn run(&mut self, slot: usize, statement: &Statement) -> Result<u64, Fault> {

@@ -22,6 +22,10 @@ module _ (m : Meaning) (s : ℕ) where
   unfolding open_refusal
   open_free h o = cond-true (ltb s 8) _ _ (lt-ltb s 8 h) ∙ cond-false (is_open m s) _ _ o
 
+  pub open_told : (b : Bool) → is_open m s ≡ b → open_refusal m s ≡ cond (ltb s 8) (cond b (Some SlotOpen) None) (Some NoSlot)
+  unfolding open_refusal
+  open_told b o = ap (λ x. cond (ltb s 8) (cond x (Some SlotOpen) None) (Some NoSlot)) o
+
   pub undo_closed : is_open m s ≡ false → undo_refusal m s ≡ Some SlotClosed
   unfolding undo_refusal
   undo_closed o = cond-false (is_open m s) _ _ o

@@ -1,7 +1,8 @@
 -- How a call's result goes with its refusal and with what it changes.
-use Rattle.std.specs.Prelude.{◌≡◌, ℕ, List, Some, None, Ok, Err, Option, Result}
+use Rattle.std.specs.Prelude.{◌≡◌, ℕ, ◌<◌, false, cond, List, is_some, Some, None, Ok, Err, Option, Result, nat_lt, slice_index_or, slice_set}
 use Rattle.statement.specs.declared.checked.Statement.{Statement}
 use Rattle.replica.specs.declared.faults.Fault.{Fault}
+use Rattle.replica.specs.declared.faults.Fault.TheVariants.{NoSlot, SlotOpen}
 use Rattle.replica.specs.Meanings.{Meaning}
 use Rattle.replica.specs.Calls.{taken_in, opened, ran, run_answer, sealed, undone}
 use Rattle.replica.specs.Refusals.{intake_refusal, open_refusal, run_refusal, seal_refusal, undo_refusal}
@@ -31,3 +32,8 @@ Seals r s p m n = Told r (seal_refusal m s p) (λ _. Unit {0}) m n (sealed m s p
 
 abbrev pub Undoes : Result (Unit {0}) Fault → ℕ → Meaning → Meaning → Type 0
 Undoes r s m n = Told r (undo_refusal m s) (λ _. Unit {0}) m n (undone m s)
+
+-- Opening a slot of an array: refused as `open` is, and otherwise the slot holds x, and the others what they held.
+abbrev pub OpensWith : {T : Type 0} → T → Result (Unit {0}) Fault → ℕ → List (Option T) → List (Option T) → Type 0
+OpensWith x (Ok v) s before after = (s < 8) × (is_some (slice_index_or before s None) ≡ false) × (after ≡ slice_set before s (Some x))
+OpensWith x (Err e) s before after = (cond (nat_lt s 8) (cond (is_some (slice_index_or before s None)) (Some SlotOpen) None) (Some NoSlot) ≡ Some e) × (after ≡ before)

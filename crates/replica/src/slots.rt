@@ -1,6 +1,7 @@
 //! Which slots of a database are open, whatever an open slot holds.
 ghost use Rattle.std.specs.Prelude.{◌≡◌, is_some, cond, None, Ok, Err, slice_index_or};
 ghost use Rattle.replica.specs.Meanings.{any_below};
+ghost use Rattle.replica.specs.Outcomes.{OpensWith};
 ghost use Rattle.replica.specs.declared.faults.Fault.TheVariants.{SlotClosed};
 
 use crate::faults::Fault;
@@ -25,4 +26,20 @@ pub fn expect_open<T>(slots: &[Option<T>; SLOTS], slot: usize) -> Result<(), Fau
     ensures { result ≡ cond (is_some (slice_index_or slots.now slot None)) (Ok tt) (Err SlotClosed) }
 {
     is_open(slots, slot).then_some(()).ok_or(Fault::SlotClosed)
+}
+
+/// Opens the slot, which then holds `held`.
+///
+/// Refused where there is no such slot, and then where it is open already.
+pub fn open<T: Copy>(slots: &mut [Option<T>; SLOTS], slot: usize, held: T) -> Result<(), Fault>
+    ensures { OpensWith held result slot slots.old slots.new }
+{
+    if slot >= SLOTS {
+        return Err(Fault::NoSlot);
+    }
+    if is_open(slots, slot) {
+        return Err(Fault::SlotOpen);
+    }
+    slots[slot] = Some(held);
+    Ok(())
 }
