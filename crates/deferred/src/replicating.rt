@@ -35,7 +35,7 @@ impl Replica for Deferred {
         self.mark
     }
 
-    // kept: both makes take in with these words; one function for both would need a trait that lends cells, slots and mark.
+    // kept: one function for both would take slots, cells and mark apart, and say no more than these five lines.
     fn intake(&mut self, statements: &[Statement], position: u64) -> Result<(), Fault> {
         if slots::any_open(&self.slots) {
             return Err(Fault::NotQuiet);

@@ -13,7 +13,8 @@ impl Deferred {
         requires { slot < 8 }
         ensures { (k : ℕ) → slice_index result k ≡ current (meaning_of self.now) slot k }
     {
-        // kept: under `map_or` a proof does not learn what `overlay` ensures
+        // kept: under `as_ref().map_or(..)` the goal `returns` stayed open for an open slot, since no contract is inferred for the closure.
+        // With one of its own it is longer than this.
         match &self.slots[slot] {
             Some(transaction) => transaction.overlay(self.cells),
             None => self.cells,

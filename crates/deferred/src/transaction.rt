@@ -7,9 +7,10 @@ mod keeping;
 /// What a transaction has locked and written so far.
 #[derive(Clone, Copy)]
 pub(crate) struct Transaction {
+    // kept: two flags by unit. A pair of them for each unit would say no more.
     reads: [bool; UNITS],
     writes: [bool; UNITS],
-    // kept: flags beside values, since as options they take 14 KiB more of fixed memory in an ensemble of eight.
+    // kept: flags beside values. As options they take 3.5 KiB more in each database, and the 74 KiB that busy_afternoon prints would change.
     written: [bool; CELLS],
     values: [u64; CELLS],
 }

@@ -1,7 +1,7 @@
 -- Which refusal there is, from what was tested.
-use Rattle.std.proofs.Common.{◌≡◌, ℕ, ◌+◌, ◌^◌, ◌<◌, ◌≤◌, Bool, true, false, cond, not, ltb, Some, None, Ok, Err, Option, Result, refl, ap, ◌∙◌, arith}
+use Rattle.std.proofs.Common.{◌≡◌, ℕ, ◌+◌, ◌^◌, ◌<◌, Bool, true, false, cond, not, ltb, Some, None, Ok, Err, Option, Result, refl, ap, ◌∙◌, arith}
 use Rattle.std.specs.Option.{SomeIff, ok_or}
-use Rattle.std.proofs.lemmas.Bool.{cond-true, cond-false, lt-ltb, le-ltb, eq-eqb, ne_eqb}
+use Rattle.std.proofs.lemmas.Bool.{cond-true, cond-false, lt-ltb, eq-eqb, ne_eqb}
 use Rattle.statement.specs.declared.checked.Statement.{Statement}
 use Rattle.statement.specs.Operations.{writes_cell}
 use Rattle.replica.specs.declared.faults.Fault.{Fault}
@@ -10,14 +10,6 @@ use Rattle.replica.specs.Meanings.{Meaning, is_open, busy, quiet}
 use Rattle.replica.specs.Refusals.{last, open_refusal, run_refusal, seal_refusal, undo_refusal, intake_refusal}
 
 module _ (m : Meaning) (s : ℕ) where
-  pub open_no_slot : 8 ≤ s → open_refusal m s ≡ Some NoSlot
-  unfolding open_refusal
-  open_no_slot h = cond-false (ltb s 8) _ _ (le-ltb s 8 h)
-
-  pub open_twice : s < 8 → is_open m s ≡ true → open_refusal m s ≡ Some SlotOpen
-  unfolding open_refusal
-  open_twice h o = cond-true (ltb s 8) _ _ (lt-ltb s 8 h) ∙ cond-true (is_open m s) _ _ o
-
   pub open_free : s < 8 → is_open m s ≡ false → open_refusal m s ≡ None
   unfolding open_refusal
   open_free h o = cond-true (ltb s 8) _ _ (lt-ltb s 8 h) ∙ cond-false (is_open m s) _ _ o
