@@ -7,6 +7,7 @@ ghost use Rattle.deferred.specs.Means.{meaning_of};
 use crate::state::Deferred;
 use replica::CELLS;
 
+// kept: `slot < 8` as a clause of these two and of one in `in_place`; a type for it would be made anew in each call of the trait.
 impl Deferred {
     /// What a slot sees in each cell.
     pub(crate) fn seen(&self, slot: usize) -> [u64; CELLS]
