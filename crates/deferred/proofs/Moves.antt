@@ -2,13 +2,13 @@
 use Rattle.std.proofs.Common.{◌≡◌, ℕ, ◌+◌, ◌<◌, Bool, true, false, cond, eqb, List, length, get_or, set, replicate, is_some, not, Some, None, Ok, Err, Option, Result, sym, refl, ap, ◌∙◌, ⊎_elim, arith}
 use mathlib.Core.Path.{fun_ext}
 use Rattle.std.proofs.lemmas.List.{get_or_past}
-use Rattle.std.proofs.lemmas.Bool.{cases_lt, true≢false}
+use Rattle.std.proofs.lemmas.Bool.{cases_lt, cond-false, true≢false}
 use Rattle.statement.specs.declared.checked.Statement.{Statement}
 use Rattle.replica.specs.Meanings.{Slot, put, is_open, quiet, any_below, slot_of, current, fresh, or_else, all_stepped}
 use Rattle.replica.specs.declared.faults.Fault.{Fault}
-use Rattle.replica.specs.Outcomes.{Opens, OpensWith}
+use Rattle.replica.specs.Outcomes.{TakesIn, TakesInWith, Opens, OpensWith}
 use Rattle.replica.specs.Calls.{cleared, taken_in, opened, written_into, looked_at, sealed, undone, lost}
-use Rattle.replica.proofs.Refused.{open_free, open_told}
+use Rattle.replica.proofs.Refused.{open_free, open_told, intake_told}
 use Rattle.replica.proofs.Indices.{set_at, all_same}
 use Rattle.replica.proofs.Same.{same_meaning}
 use Rattle.deferred.specs.declared.transaction.Transaction.{Transaction}
@@ -40,6 +40,17 @@ module _ (cells : List ℕ) (slots : List (Option Transaction)) (mark : ℕ) whe
   pub intake_means : (after : List ℕ) (sts : List Statement) (p : ℕ) → (λ c. get_or after c 0) ≡ all_stepped (λ c. get_or cells c 0) sts → means after slots (p + 1) ≡ taken_in (means cells slots mark) sts p
   unfolding taken_in
   intake_means after sts p e = same_meaning (means after slots (p + 1)) (taken_in (means cells slots mark) sts p) (λ c. ap (λ f. f c) e) refl (λ s. refl)
+
+  -- intake, refused or not
+  pub takes_means : (r : Result (Unit {0}) Fault) (sts : List Statement) (p : ℕ) (after : List ℕ) (next : ℕ)
+      → TakesInWith r (any_below 8 (λ s. is_some (get_or slots s None))) sts p cells after mark next → TakesIn r sts p (means cells slots mark) (means after slots next)
+  takes_means (Ok v) sts p after next (none, more, ran, is) = (
+    intake_told (means cells slots mark) p _ (quiet_is cells slots mark) ∙ cond-false _ _ _ none ∙ cond-false _ _ _ more,
+    tt,
+    ap (means after slots) is ∙ intake_means after sts p ran,
+  )
+  takes_means (Err e) sts p after next (why, same, kept) =
+      (intake_told (means cells slots mark) p _ (quiet_is cells slots mark) ∙ why, ap (λ x. means x slots next) same ∙ ap (means cells slots) kept)
 
   pub lose_means : means cells (replicate 8 None) mark ≡ lost (means cells slots mark)
   unfolding lost

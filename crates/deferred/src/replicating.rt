@@ -4,7 +4,7 @@ ghost use Rattle.replica.specs.Calls.{cleared};
 ghost use Rattle.deferred.specs.Means.{meaning_of};
 
 use crate::state::Deferred;
-use replica::{CELLS, Fault, Replica, SLOTS, replay, slots};
+use replica::{CELLS, Fault, Replica, SLOTS, slots};
 use statement::Statement;
 
 impl Deferred {
@@ -35,14 +35,13 @@ impl Replica for Deferred {
         self.mark
     }
 
-    // kept: one function for both would take slots, cells and mark apart, and say no more than these five lines.
     fn intake(&mut self, statements: &[Statement], position: u64) -> Result<(), Fault> {
-        if slots::any_open(&self.slots) {
-            return Err(Fault::NotQuiet);
-        }
-        let next = position.checked_add(1).ok_or(Fault::LastPosition)?;
-        self.cells = replay(self.cells, statements);
-        self.mark = next;
-        Ok(())
+        slots::take_in(
+            &self.slots,
+            &mut self.cells,
+            &mut self.mark,
+            statements,
+            position,
+        )
     }
 }

@@ -7,9 +7,9 @@ use Rattle.std.proofs.lemmas.Bool.{cases_eq, eq-eqb, ne_eqb, true≢false, cond-
 use Rattle.statement.specs.declared.checked.Statement.{Statement}
 use Rattle.replica.specs.Meanings.{Meaning, Slot, put, any_below, is_open, slot_of, current, all_stepped, excludes, busy, fresh, or_else}
 use Rattle.replica.specs.declared.faults.Fault.{Fault}
-use Rattle.replica.specs.Outcomes.{Opens, OpensWith}
+use Rattle.replica.specs.Outcomes.{TakesIn, TakesInWith, Opens, OpensWith}
 use Rattle.replica.specs.Calls.{taken_in, opened, written_into, looked_at, sealed, undone, lost}
-use Rattle.replica.proofs.Refused.{open_free, open_told}
+use Rattle.replica.proofs.Refused.{open_free, open_told, intake_told}
 use Rattle.replica.proofs.Indices.{any_none, all_same}
 use Rattle.replica.proofs.Same.{same_meaning, same_slot}
 use Rattle.in_place.specs.declared.former.Former.{Former}
@@ -18,7 +18,7 @@ use Rattle.in_place.specs.Reads.{holds}
 use Rattle.in_place.specs.declared.state.InPlace.{InPlace}
 use Rattle.in_place.specs.Parts.{means, held_by_open, committed, written_by, own_of, shown_slot, released, restored}
 use Rattle.in_place.specs.State.{meaning_of, same_unit}
-use Rattle.in_place.proofs.Means.{Held, open_is, none_is, open_below, all_closed, none_held}
+use Rattle.in_place.proofs.Means.{Held, open_is, quiet_is, none_is, open_below, all_closed, none_held}
 use Rattle.in_place.proofs.Closing.{sealed_cell, undone_cell, other_writes, other_own, other_kept}
 
 -- slot t, open or not
@@ -90,6 +90,17 @@ intake_means d after p sts long none ran =
     (λ c. ap (λ f. f c) whole)
     refl
     (λ s. ap (option_map (shown_slot after formers s)) (closed s) ∙ sym (ap (option_map (shown_slot cells formers s)) (closed s)))
+
+-- intake, refused or not
+pub takes_means : (d : InPlace) → length d.slots ≡ 8 → (r : Result (Unit {0}) Fault) (sts : List Statement) (p : ℕ) (after : List ℕ) (next : ℕ)
+    → TakesInWith r (any_below 8 (λ s. is_some (get_or d.slots s None))) sts p d.cells after d.mark next → TakesIn r sts p (meaning_of d) (means after d.formers d.slots next)
+takes_means d long (Ok v) sts p after next (none, more, ran, is) = (
+  intake_told (meaning_of d) p _ (quiet_is d) ∙ cond-false _ _ _ none ∙ cond-false _ _ _ more,
+  tt,
+  ap (means after d.formers d.slots) is ∙ intake_means d after p sts long none ran,
+)
+takes_means d long (Err e) sts p after next (why, same, mark) =
+    (intake_told (meaning_of d) p _ (quiet_is d) ∙ why, ap (λ x. means x d.formers d.slots next) same ∙ ap (means d.cells d.formers d.slots) mark)
 
 module _ (d : InPlace) (long : length d.slots ≡ 8) (s : ℕ) where
   abbrev cells : List ℕ

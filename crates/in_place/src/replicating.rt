@@ -5,7 +5,7 @@ ghost use Rattle.in_place.specs.State.{meaning_of};
 
 use crate::former::base;
 use crate::state::InPlace;
-use replica::{CELLS, Fault, Replica, SLOTS, replay, slots};
+use replica::{CELLS, Fault, Replica, SLOTS, slots};
 use statement::Statement;
 
 impl InPlace {
@@ -39,14 +39,13 @@ impl Replica for InPlace {
         self.mark
     }
 
-    // kept: one function for both would take slots, cells and mark apart, and say no more than these five lines.
     fn intake(&mut self, statements: &[Statement], position: u64) -> Result<(), Fault> {
-        if slots::any_open(&self.slots) {
-            return Err(Fault::NotQuiet);
-        }
-        let next = position.checked_add(1).ok_or(Fault::LastPosition)?;
-        self.cells = replay(self.cells, statements);
-        self.mark = next;
-        Ok(())
+        slots::take_in(
+            &self.slots,
+            &mut self.cells,
+            &mut self.mark,
+            statements,
+            position,
+        )
     }
 }

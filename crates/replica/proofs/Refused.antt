@@ -62,6 +62,14 @@ module _ (m : Meaning) (s : ℕ) where
   unfolding intake_refusal
   intake_free p b e h n = cond-true (quiet m) _ _ (e ∙ ap not h) ∙ cond-false (last p) _ _ (ne_eqb p 18446744073709551615 n)
 
+pub intake_told : (m : Meaning) (p : ℕ) (b : Bool) → quiet m ≡ not b → intake_refusal m p ≡ cond b (Some NotQuiet) (cond (last p) (Some LastPosition) None)
+unfolding intake_refusal
+intake_told m p b e = ap (λ q. cond q (cond (last p) (Some LastPosition) None) (Some NotQuiet)) e ∙ turned b (cond (last p) (Some LastPosition) None) (Some NotQuiet)
+  where
+    turned : (b : Bool) (x y : Option Fault) → cond (not b) x y ≡ cond b y x
+    turned true x y = refl
+    turned false x y = refl
+
 -- whether the slot is open, from what `expect_open` answers
 module _ {b : Bool} {r : Result (Unit {0}) Fault} (told : r ≡ cond b (Ok tt) (Err SlotClosed)) where
   pub shut_is : {e : Fault} → r ≡ Err e → (b ≡ false) × (e ≡ SlotClosed)

@@ -1,32 +1,9 @@
-use Rattle.std.proofs.Common.{◌≡◌, length, sym, refl, ap, ◌∙◌, rules}
-use Rattle.std.proofs.lemmas.Result.{err_from_is_err_and}
-use Rattle.replica.proofs.Refused.{intake_open, intake_last, intake_free, no_next, next_is}
-use Rattle.in_place.specs.Parts.{means}
-use Rattle.in_place.specs.State.{meaning_of}
-use Rattle.in_place.proofs.Means.{quiet_is}
-use Rattle.in_place.proofs.Moves.{intake_means}
+use Rattle.std.proofs.Common.{◌≡◌, length, rules}
+use Rattle.in_place.proofs.Moves.{takes_means}
 use Rattle.in_place.proofs.replicating.InPlaceReplica.intake.Goals as goal
-
-pub returns-then-any_open : goal.returns-then-any_open
-returns-then-any_open c =
-    let d = c.args.self.now in
-    (intake_open (meaning_of d) 0 c.args.position _ (quiet_is d) (sym c.if-any_open.ensures), refl)
-
-pub returns-in_err-next : goal.returns-in_err-next
-returns-in_err-next c =
-    let d = c.args.self.now in
-    let p = err_from_is_err_and c.from_residual.result c.from_residual.ensures.1 in
-    let why = no_next c.args.position c.ranges.position.fits c.checked_add.result c.ok_or.result c.in_err-next.field-0.0 c.checked_add.ensures c.ok_or.ensures.value (c.in_err-next.was) in
-    rw (p.1, p.2, why.1) (intake_last (meaning_of d) 0 c.args.position _ (quiet_is d) (sym c.if-any_open.ensures) why.0, refl)
 
 pub returns : goal.returns
 returns c =
     let d = c.args.self.now in
-    let p = c.args.position in
     let long : length d.slots ≡ 8 = search rules in
-    let none = sym c.if-any_open.ensures in
-    let next = next_is p c.ranges.position.fits c.checked_add.result c.ok_or.result c.in_ok-next.next c.checked_add.ensures c.ok_or.ensures.value (c.in_ok-next.was) in (
-      intake_free (meaning_of d) 0 p _ (quiet_is d) none next.0,
-      tt,
-      ap (means c.replay-self.result d.formers d.slots) next.1 ∙ intake_means d c.replay-self.result p c.args.statements.now long none c.replay-self.ensures,
-    )
+    takes_means d long c.take_in.result c.args.statements.now c.args.position c.take_in.new.cells c.take_in.new.mark c.take_in.ensures
