@@ -1,11 +1,8 @@
 use Rattle.std.proofs.Common.{arith, take_all}
 use Rattle.std.proofs.lemmas.List.{get_or_default}
 use Rattle.ensemble.specs.Whole.{state}
-use Rattle.playing.proofs.Chains.{nothing_yet, one_more, all_played}
+use Rattle.playing.proofs.Chains.{one_more, all_played}
 use Rattle.playing.proofs.plays.perform_all.Goals as goal
-
-pub loop-act-init : goal.loop-act-init
-loop-act-init g c = (nothing_yet c.args.acts.now c.args.history.now.items (state g.B.Broadcast g.K.ReplicaBank g.K.DatabaseBank c.args.ensemble.now), omega arith, c.requires)
 
 pub loop-act-preserved : goal.loop-act-preserved
 loop-act-preserved g c =
