@@ -24,11 +24,11 @@ impl Server {
     pub(crate) fn find(&self, client: u8, job: u32) -> Option<(Slot, Row)>
         ensures { found_of result ≡ seek (rows_of self.now.rows) client job 8 }
     {
-        let named = |row: Row| row.client == client && row.job == job;
+        let named = |row: &Row| row.client == client && row.job == job;
         let index = self
             .rows
             .iter()
-            .rposition(|entry| entry.is_some_and(named))?;
+            .rposition(|entry| entry.as_ref().is_some_and(named))?;
         let row = self.rows[index]?;
         Some((Slot { index }, row))
     }
