@@ -33,9 +33,9 @@ Looks (Ok x) why Right = (why ≡ None) × Right x
 Looks (Err e) why Right = why ≡ Some e
 
 -- The server runs; otherwise it is told that it is stopped.
-abbrev pub Runs : Server → Result (Unit {0}) ServerFault → Type 0
-Runs v (Ok u) = v.running ≡ true
-Runs v (Err e) = (v.running ≡ false) × (e ≡ fault.Stopped)
+abbrev pub RunsOrStopped : Server → Result (Unit {0}) ServerFault → Type 0
+RunsOrStopped v (Ok u) = v.running ≡ true
+RunsOrStopped v (Err e) = (v.running ≡ false) × (e ≡ fault.Stopped)
 
 -- The server runs and the client exists; otherwise, which of these fails first.
 abbrev pub Admits : Server → ℕ → Result (Unit {0}) ServerFault → Type 0

@@ -5,7 +5,7 @@ ghost use Rattle.pronto.specs.Refusing.{first, begin_table, run_table, open_tabl
 ghost use Rattle.pronto.specs.Delivering.{deliver_table, own_at};
 ghost use Rattle.server.specs.Shown.{rows_of, shown};
 ghost use Rattle.server.specs.Outcomes.{asks};
-ghost use Rattle.server.specs.Looking.{Looks, Runs, Admits, Reaches, slot_of, FreeIn, Found, Runnable, Next, Nothing};
+ghost use Rattle.server.specs.Looking.{Looks, RunsOrStopped, Admits, Reaches, slot_of, FreeIn, Found, Runnable, Next, Nothing};
 
 use super::Server;
 use crate::counts::ServerCount;
@@ -104,7 +104,7 @@ impl Server {
 
     /// Only that the server runs: for a suspect and a stop, and first of all for the other acts but start.
     pub(crate) fn look_running(&self) -> Result<(), ServerFault>
-        ensures { Runs self.now result }
+        ensures { RunsOrStopped self.now result }
     {
         if !self.running {
             return Err(ServerFault::Stopped);
