@@ -1,4 +1,4 @@
-//! Which slots of a database are open, whatever an open slot holds.
+//! The slots of a database, whatever an open slot holds: which are open, opening one, and taking in while none is.
 ghost use Rattle.std.specs.Prelude.{◌≡◌, is_some, cond, None, Ok, Err, slice_index_or};
 ghost use Rattle.replica.specs.Meanings.{any_below};
 ghost use Rattle.replica.specs.Outcomes.{OpensWith, TakesInWith};
