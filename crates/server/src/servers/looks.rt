@@ -34,9 +34,10 @@ impl Server {
     pub(crate) fn reach(&self, id: TransactionId, arrival: Arrival) -> Result<Open, ServerFault>
         ensures { Reaches arrival (seek (rows_of self.now.rows) id.client id.job 8) result }
     {
-        let (slot, row) = self
-            .find(id.client, id.job)
-            .ok_or(ServerFault::NoTransaction)?;
+        // kept: the project's form for a row that is there or not, here and in `look_begin`.
+        let Some((slot, row)) = self.find(id.client, id.job) else {
+            return Err(ServerFault::NoTransaction);
+        };
         let outcome = arrive(row.state, arrival)?;
         Ok(Open { slot, row, outcome })
     }
@@ -56,9 +57,9 @@ impl Server {
         if self.bar.is_some() {
             return Err(ServerFault::Barred);
         }
-        if self.find(id.client, id.job).is_some() {
+        let None = self.find(id.client, id.job) else {
             return Err(ServerFault::AlreadyOpen);
-        }
+        };
         self.free_slot().ok_or(ServerFault::Crowded)
     }
 
