@@ -19,7 +19,7 @@ use statement::Operation;
 use std::io;
 
 /// How many servers there are.
-const SERVERS: u64 = 3;
+const COUNT: u64 = 3;
 
 /// The first client's post, which is confirmed, and a second one of another client.
 const POST: TransactionId = TransactionId {
@@ -176,7 +176,7 @@ fn afternoon(rt: &HostRuntime) -> anyhow::Result<()> {
         },
     };
     let mut history = Vec::with_capacity(rt.alloc(), AFTERNOON.len())?;
-    let ensemble = play_new(broadcast, bank, SERVERS, &AFTERNOON, &mut history)
+    let ensemble = play_new(broadcast, bank, COUNT, &AFTERNOON, &mut history)
         .ok()
         .context("the afternoon was not played")?;
     show_history(rt, history.as_slice())?;

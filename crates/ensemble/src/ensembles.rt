@@ -8,14 +8,14 @@ pub mod finding;
 pub mod making;
 pub mod sending;
 
-// kept: clauses say `state ..` and there is no model: a model has the bounds of its struct, and this one has none, so that its view could not name log and databases.
+// kept: clauses say `state ..` and there is no model: it would have the bounds of its struct, which has none, and could not name log and databases.
 /// Up to eight servers, each with a database of the bank, and one ordered broadcast, held by value. No act allocates.
 #[derive(Drop)]
 pub struct Ensemble<B, K> {
     broadcast: B,
     bank: K,
     // By place. Those past the count are never used.
-    // kept: an array with a count beside, since by the project's rule no making allocates.
+    // kept: an array with a count beside, since memory is fixed and making an ensemble allocates nothing.
     servers: [Server; SERVERS],
     count: ServerCount,
     sent: u64,

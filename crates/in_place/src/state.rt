@@ -9,8 +9,8 @@ use replica::{CELLS, SLOTS};
 /// A database whose cells hold what was written last, sealed or not. Each cell is a unit of its own.
 #[derive(Clone, Copy)]
 pub struct InPlace {
-    // kept: two arrays, since replaying takes the values alone as one array.
     // What was written last.
+    // kept: two arrays, since replaying takes the values alone as one array.
     pub(crate) cells: [u64; CELLS],
     // What an undo puts back, in each cell that an open slot wrote.
     pub(crate) formers: [Option<Former>; CELLS],

@@ -12,6 +12,7 @@ use message::Message;
 pub fn primary(servers: u64, epoch: u64) -> Option<u64>
     ensures { Leads result servers epoch }
 {
+    // kept: the rule in its order; `checked_rem` and `map` would begin with the remainder.
     if servers == 0 {
         return None;
     }
@@ -27,7 +28,7 @@ struct Standing {
 
 impl Standing {
     /// One message further, the one at `position`.
-    // kept: client and job as two, here and in `before`: a message holds them apart, and the act's name for both lies in a crate above.
+    // kept: client and job as two, here and in `before`: a message holds them apart, and `TransactionId` is defined in a crate above this one.
     fn past(self, position: u64, message: &Message, client: u8, job: u32) -> Standing
         requires { self.epoch ≤ 4096 }
         ensures slow { result.epoch ≤ self.epoch + 1 }
@@ -99,6 +100,7 @@ pub fn judge<B: Broadcast>(broadcast: &B, position: u64) -> Result<Judgement, No
             if t.epoch != then.epoch {
                 return Ok(Judgement::Late);
             }
+            // kept: a `match` that names both judgements; `map_or` would name the second one first.
             match then.earlier {
                 Some(earlier) => Ok(Judgement::Again(earlier)),
                 None => Ok(Judgement::Committed),

@@ -3,7 +3,7 @@
 
 // kept: the functions in begins, delivers, handles, runs and stops, but `start`, take a server, a bank and a place. A struct that lends all
 // three names their last values by position in its contracts, as `self.exit.1.0.now`, and the public functions would only wrap its methods.
-// Where a number goes with them, it is the server's in messages, while the place is its database's in the bank.
+// A number that goes with them is the server's in messages; the place is where its database stands in the bank.
 pub mod begins;
 pub mod counts;
 pub mod delivers;

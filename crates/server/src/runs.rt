@@ -8,7 +8,7 @@ use bank::DatabaseBank;
 use pronto::{ServerFault, TransactionId};
 use statement::Operation;
 
-// kept: cell and operation as raw numbers: `Statement::new` checks the pair, after other refusals, and a struct for an unchecked pair would be a second statement.
+// kept: cell and operation unchecked: `Statement::new` checks the pair after other refusals; a struct for an unchecked one would be a second statement.
 /// Runs the operation on the cell in the transaction of a client's job, notes it, and answers its result.
 /// The server that the id names is not looked at.
 ///

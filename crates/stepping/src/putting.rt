@@ -3,7 +3,7 @@ ghost use Rattle.std.specs.Prelude.{◌≡◌, ◌+◌, ◌≤◌, length, decim
 ghost use Rattle.stepping.specs.Buffers.{HasRoom, Wrote};
 
 /// A buffer, and the place where the next text goes.
-// kept: a lent buffer and a place, since no act allocates. Its own methods and not `write!`, whose outcome here could only be made up.
+// kept: a lent buffer and a place, since no act allocates. Its own methods and not `write!`, which answers a failure that cannot happen here.
 #[derive(Drop)]
 pub(crate) struct LineWriter<'a> {
     line: &'a mut [u8],

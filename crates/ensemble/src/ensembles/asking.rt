@@ -55,6 +55,7 @@ impl<B: Broadcast, K: DatabaseBank> Ensemble<B, K> {
         ensures { TellsCell (state B.Broadcast K.ReplicaBank K.DatabaseBank.own self.now) server cell result }
     {
         let place = self.place(server)?;
+        // kept: `ok` and `ok_or`; under `map_err` with a closure the goal of this function stayed open.
         self.bank
             .cell(place as u64, cell)
             .ok()

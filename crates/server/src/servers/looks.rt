@@ -34,7 +34,7 @@ impl Server {
     pub(crate) fn reach(&self, id: TransactionId, arrival: Arrival) -> Result<Open, ServerFault>
         ensures { Reaches arrival (seek (rows_of self.now.rows) id.client id.job 8) result }
     {
-        // kept: the project's form for a row that is there or not, here and in `look_begin`.
+        // kept: by a rule of the project (docs/DECISIONS.md) a job that is looked up is taken apart by let else, here and in look_begin.
         let Some((slot, row)) = self.find(id.client, id.job) else {
             return Err(ServerFault::NoTransaction);
         };
@@ -103,7 +103,7 @@ impl Server {
         Ok((message, judgement))
     }
 
-    /// Only that the server runs: for a suspect and a stop, and first of all for the other acts but start.
+    /// That the server runs: all that a suspect and a stop ask, and what the other acts but start ask first.
     pub(crate) fn look_running(&self) -> Result<(), ServerFault>
         ensures { RunsOrStopped self.now result }
     {
@@ -113,7 +113,7 @@ impl Server {
         Ok(())
     }
 
-    /// Nothing more: for a start, the server does not run.
+    /// That the server does not run: all that a start asks.
     pub(crate) fn look_start(&self) -> Result<(), ServerFault>
         ensures { (m : Meaning) → Looks result (first (start_table (shown self.now m))) Nothing }
     {
