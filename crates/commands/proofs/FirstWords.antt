@@ -1,8 +1,6 @@
 -- The opening words: letters only, and no two the same.
-use Rattle.std.proofs.Common.{◌≡◌, ℕ, zero, suc, ◌+◌, ◌*◌, ◌<◌, ◌≤◌, Bool, true, cond, ◌&&◌, eqb, leb, List, [], ◌∷◌, get_or, sym, refl, ap, ◌∙◌, arith, leb-true}
-use Rattle.std.specs.Str.{IsUtf8}
+use Rattle.std.proofs.Common.{◌≡◌, ℕ, ◌+◌, ◌*◌, ◌<◌, ◌≤◌, Bool, true, cond, ◌&&◌, eqb, leb, List, [], ◌∷◌, get_or, sym, refl, ap, ◌∙◌, arith, leb-true}
 use Rattle.std.proofs.lemmas.Bool.{and_parts}
-use Rattle.std.proofs.lemmas.Str.{IsUtf8-from_ascii}
 use Rattle.lexing.specs.Forms as forms
 use Rattle.lexing.specs.Parts.{Free}
 use Rattle.lexing.proofs.Digits.{no_letter}
@@ -67,22 +65,6 @@ letters_free b low (x ∷ bs) h =
 
 pub opening_free : (b : ℕ) → b < 97 → (o : Opening) → Free b (opening_text o)
 opening_free b low o = letters_free b low (opening_text o) (spelt o)
-
-abbrev ascii : List ℕ → Bool
-ascii [] = true
-ascii (b ∷ bs) = leb b 127 && ascii bs
-
-each_ascii : (bs : List ℕ) → ascii bs ≡ true → (i : ℕ) → get_or bs i 0 < 128
-each_ascii [] h i = omega arith
-each_ascii (b ∷ bs) h zero = omega (arith, leb-true b 127 (and_parts (leb b 127) (ascii bs) h).0)
-each_ascii (b ∷ bs) h (suc i) = each_ascii bs (and_parts (leb b 127) (ascii bs) h).1 i
-
-opening_ascii : (o : Opening) → ascii (opening_text o) ≡ true
-opening_ascii = each (λ o. ascii (opening_text o) ≡ true) refl refl refl refl refl refl refl refl refl refl refl refl refl refl refl refl
-
--- an opening is text
-pub opening_utf8 : (o : Opening) → IsUtf8 (opening_text o)
-opening_utf8 o = IsUtf8-from_ascii (opening_text o) (each_ascii (opening_text o) (opening_ascii o))
 
 first_letter : (o : Opening) → leb 97 (get_or (opening_text o) 0 0) ≡ true
 first_letter = each (λ o. leb 97 (get_or (opening_text o) 0 0) ≡ true) refl refl refl refl refl refl refl refl refl refl refl refl refl refl refl refl

@@ -58,23 +58,23 @@ pub enum Opening {
 pub fn opening_of(word: &[u8]) -> Option<Opening>
     ensures { MatchOption result ((o : Opening) → word.now ≢ opening_text o) (λ o. word.now ≡ opening_text o) }
 {
-    match str::from_utf8(word).ok()? {
-        "order" => Some(Opening::Order),
-        "cell" => Some(Opening::Cell),
-        "suspect" => Some(Opening::Server(ServerVerb::Suspect)),
-        "deliver" => Some(Opening::Server(ServerVerb::Deliver)),
-        "stop" => Some(Opening::Server(ServerVerb::Stop)),
-        "start" => Some(Opening::Server(ServerVerb::Start)),
-        "begin" => Some(Opening::Job(JobVerb::Begin)),
-        "commit" => Some(Opening::Job(JobVerb::Commit)),
-        "abort" => Some(Opening::Job(JobVerb::Abort)),
-        "get" => Some(Opening::Read(ReadVerb::Get)),
-        "heads" => Some(Opening::Read(ReadVerb::Heads)),
-        "set" => Some(Opening::Store(StoreVerb::Set)),
-        "add" => Some(Opening::Store(StoreVerb::Add)),
-        "take" => Some(Opening::Store(StoreVerb::Take)),
-        "join" => Some(Opening::Member(MemberVerb::Join)),
-        "leave" => Some(Opening::Member(MemberVerb::Leave)),
+    match word {
+        b"order" => Some(Opening::Order),
+        b"cell" => Some(Opening::Cell),
+        b"suspect" => Some(Opening::Server(ServerVerb::Suspect)),
+        b"deliver" => Some(Opening::Server(ServerVerb::Deliver)),
+        b"stop" => Some(Opening::Server(ServerVerb::Stop)),
+        b"start" => Some(Opening::Server(ServerVerb::Start)),
+        b"begin" => Some(Opening::Job(JobVerb::Begin)),
+        b"commit" => Some(Opening::Job(JobVerb::Commit)),
+        b"abort" => Some(Opening::Job(JobVerb::Abort)),
+        b"get" => Some(Opening::Read(ReadVerb::Get)),
+        b"heads" => Some(Opening::Read(ReadVerb::Heads)),
+        b"set" => Some(Opening::Store(StoreVerb::Set)),
+        b"add" => Some(Opening::Store(StoreVerb::Add)),
+        b"take" => Some(Opening::Store(StoreVerb::Take)),
+        b"join" => Some(Opening::Member(MemberVerb::Join)),
+        b"leave" => Some(Opening::Member(MemberVerb::Leave)),
         _ => None,
     }
 }

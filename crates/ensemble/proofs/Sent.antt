@@ -56,10 +56,10 @@ module _ (s : State) (log' waiting' : List Msg) (capacity' : ℕ) (l : log' ≡ 
   state_now log waiting capacity sent =
       record { log = log; waiting = waiting; capacity = capacity; count = s.count; databases = s.databases; units = s.units; sent = sent; servers = s.servers; spare = s.spare }
 
-  offered : (n : ℕ) → state_now log' waiting' capacity' n ≡ with_messages s s.log waiting' n
+  pub offered : (n : ℕ) → state_now log' waiting' capacity' n ≡ with_messages s s.log waiting' n
   offered n = ap (λ x. state_now x waiting' capacity' n) l ∙ ap (λ x. state_now s.log waiting' x n) k
 
-  not_offered : waiting' ≡ s.waiting → state_now log' waiting' capacity' s.sent ≡ s
+  pub not_offered : waiting' ≡ s.waiting → state_now log' waiting' capacity' s.sent ≡ s
   not_offered w = offered s.sent ∙ ap (λ x. state_now s.log x s.capacity s.sent) w
 
   pub sent_now : (n m : ℕ) → n ≡ m → state_now log' waiting' capacity' n ≡ with_messages s s.log waiting' m

@@ -16,12 +16,12 @@ impl InPlace {
         requires { other < 8 }
         ensures { result ≡ excludes (meaning_of self.now) slot statement.now.cell (writes_cell statement.now.operation) other }
     {
-        let wrote = wrote(self.formers[statement.cell() as usize], other);
-        let writing = statement.writes();
+        let Some(reads) = &self.slots[other] else {
+            return false;
+        };
         other != slot
-            && self.slots[other]
-                .as_ref()
-                .is_some_and(|reads| wrote || (writing && reads.contains(statement)))
+            && (wrote(self.formers[statement.cell() as usize], other)
+                || (statement.writes() && reads.contains(statement)))
     }
 
     /// Whether a lock of any other slot on the statement's cell excludes the one that the statement needs in `slot`.

@@ -61,7 +61,7 @@ reached next line h l =
     (cases_lt line next)
 
 -- where all lines are empty, nothing waits
-none_waits : (next : ℕ) (bag : List Msg) → next < 8 → ((j : ℕ) → j < 8 → Empty ((next + j) % 8) bag) → bag ≡ []
+pub none_waits : (next : ℕ) (bag : List Msg) → next < 8 → ((j : ℕ) → j < 8 → Empty ((next + j) % 8) bag) → bag ≡ []
 none_waits next [] h f = refl
 none_waits next (m ∷ ms) h f =
     let j = reached next (line_of m) h (omega arith) in

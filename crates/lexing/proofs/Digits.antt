@@ -1,12 +1,9 @@
 -- The written form of a number, byte by byte.
-use Rattle.std.proofs.Common.{◌≡◌, ℕ, ◌^◌, ◌<◌, ◌≤◌, List, length, get_or, Ok, Err, decimal, Result, MatchResult, ◌≢◌, sym, refl, ap, ◌∙◌, subst, ⊎_elim, zero-lt-suc, le_refl, arith, length-drop}
+use Rattle.std.proofs.Common.{◌≡◌, ℕ, ◌^◌, ◌<◌, ◌≤◌, List, length, get_or, take, decimal, sym, refl, ap, ◌∙◌, subst, ⊎_elim, zero-lt-suc, arith, length-take-le}
 use native.Mathlib.Nat.{pow-le-pow_right}
-use Rattle.std.specs.Str.{IsUtf8}
-use Rattle.std.specs.Str.Parse.{AllDigits, IsNumeral, ParsesUnsigned, digits_value}
+use Rattle.std.specs.Str.Parse.{AllDigits, digits_value}
 use Rattle.std.proofs.lemmas.Fmt.{decimal_is_IsNumeral, length-decimal-le, first_decimal, decimal_digit, decimal-digits_value, decimal_injective}
-use Rattle.std.proofs.lemmas.Str.Parse.{numerals_by_value, tells_digits, digit_at, without_leading_plus_none, without_leading_plus_plus}
-use Rattle.std.proofs.lemmas.Str.{IsUtf8-from_ascii}
-use Rattle.std.proofs.lemmas.Str.Ascii.{IsAscii-from_reads}
+use Rattle.std.proofs.lemmas.Str.Parse.{numerals_by_value, tells_digits, digit_at}
 use Rattle.std.proofs.lemmas.Int.Digits.{digits_value-lt}
 use Rattle.std.proofs.str.Laws.{order}
 use Rattle.lexing.specs.Forms.{Writes, Name}
@@ -45,40 +42,12 @@ writes bs s =
     let small = short_value bs 18 s.digits s.short in
     (small, sym (decimal-digits_value (numerals_by_value _ tells_digits) bs s.digits s.some s.plain (fits _ small)))
 
--- a written number has no sign
-pub no_plus : (bs : List ℕ) → Shape bs → get_or bs 0 0 ≢ 43
-no_plus bs s e = omega (arith, digit_at bs 0 s.digits s.some)
-
--- what `parse` reads, of a text with no sign before a digit and no needless zero
-pub parsed :
-    {E : Type 0} (bs : List ℕ) (r : Result ℕ E) → ParsesUnsigned 64 10 bs r → length bs ≤ 18 →
-    (1 < length bs → (get_or bs 0 0 ≢ 48) × (get_or bs 0 0 ≢ 43)) → MatchResult r (λ n. Writes n bs) (λ _. (n : ℕ) → Writes n bs → ⊥)
-parsed bs (Ok n) h short plain =
-    let sign : get_or bs 0 0 ≢ 43 = λ e.
-    ⊎_elim
-    (λ long. (plain long).1 e)
-    (λ one. omega (arith, h.0.0.0, ap length (without_leading_plus_plus bs e), length-drop 1 bs))
-    (order 1 (length bs)) in
-    let all = without_leading_plus_none bs sign in
-    let numeral = subst (IsNumeral 10) all h.0.0 in
-    let s : Shape bs = record {
-      some = numeral.0;
-      short = short;
-      digits = numeral.1;
-      plain = λ zero_first. ⊎_elim (λ long. absurd ((plain long).0 zero_first)) (λ one. omega (arith, numeral.0)) (order 1 (length bs));
-    } in
-    subst (λ m. Writes m bs) (sym (h.1 ∙ ap (digits_value 10) all)) (writes bs s)
-parsed bs (Err e) h short plain = λ n w.
-    let s = shape n bs w in
-    let all = without_leading_plus_none bs (no_plus bs s) in
-    let small = fits _ (short_value bs 18 s.digits s.short) in
-    h (subst (λ t. IsNumeral 10 t × (digits_value 10 t < 2 ^ 64)) (sym all) ((s.some, s.digits), small))
-
--- a written number is text
-pub number_utf8 : (n : ℕ) (bs : List ℕ) → Writes n bs → IsUtf8 bs
-number_utf8 n bs w =
-    let s = shape n bs w in
-    IsUtf8-from_ascii bs (IsAscii-from_reads bs (length bs) (le_refl _) (λ k lt. omega (arith, digit_at bs k s.digits lt)))
+-- one digit more of a number of at most 18 digits still fits
+pub room : (bs : List ℕ) (i n : ℕ) → length bs ≤ 18 → i < length bs → AllDigits 10 (take i bs) → n ≡ digits_value 10 (take i bs) → n < 10 ^ 17
+room bs i n short lt d e =
+    let long = length-take-le i bs (omega arith) in
+    let h = short_value (take i bs) 17 d (omega arith) in
+    omega arith
 
 -- what begins with a letter writes no number
 pub no_letter : (n : ℕ) (bs : List ℕ) → Writes n bs → 97 ≤ get_or bs 0 0 → ⊥

@@ -14,7 +14,8 @@ use statement::Operation;
 pub fn place_of(names: &[&[u8]], name: &[u8]) -> Option<usize>
     ensures { MatchOption result (Apart (texts names.now) name.now) (λ k. (k < length (texts names.now)) × (text_at (texts names.now) k ≡ name.now)) }
 {
-    names.iter().position(|listed| *listed == name)
+    let place = names.iter().position(|listed| *listed == name)?;
+    Some(place)
 }
 
 // kept: plain functions for these five, since `From` cannot be written between types of two other crates.

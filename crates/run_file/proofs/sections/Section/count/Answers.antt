@@ -1,5 +1,5 @@
 -- A line that is a head has two words: the section's, and the count's.
-use Rattle.std.proofs.Common.{◌≡◌, ℕ, Bool, true, false, List, [], ◌∷◌, MatchOption, Decides, decimal, sym, refl, ap, ◌∙◌, arith}
+use Rattle.std.proofs.Common.{◌≡◌, ℕ, Bool, true, false, List, [], ◌∷◌, MatchOption, Decides, decimal, sym, refl, ap, ◌∙◌, arith, rules}
 use Rattle.std.specs.Bool.{then_some}
 use Rattle.std.proofs.lemmas.Bool.{false≢true}
 use Rattle.lexing.specs.Parts.{parts, joined}
@@ -51,6 +51,6 @@ returns c =
     let s = c.args.self.now in
     let told = c.in_ok-count.ensures.takes in
     rw c.then_some.ensures
-    (only_head s c.args.line.now c.in_ok-word.field-0.now c.in_ok-count.count c.is_done.result c.new-words.ensures.words
+    (only_head s c.args.line.now c.in_ok-word.field-0.now c.in_ok-count.count _ c.new-words.ensures.words
     c.in_ok-word.ensures.takes.1 (c.opens_with.ensures.0 c.if-not-opens_with.false) told.1
-    (omega (arith, c.if-count-least.false, c.least.ensures), omega (arith, told.0.1, c.most.ensures)) c.is_done.ensures)
+    (omega (arith, c.if-count-least.false, c.least.ensures), omega (arith, told.0.1, c.most.ensures)) (search rules))
