@@ -17,4 +17,4 @@ returns c =
     (IsFirst-from_position _ _ (Some c.in_ok-place.place) (λ x. x.now ≡ c.args.name.now) (λ x. x.now ≡ c.args.name.now → ⊥) c.in_ok-place.ensures.ran
     (YieldsList-from_slice c.args.names.now cc)
     (λ x q k. search (rules, tests)) (λ x q k. search (rules, tests))) in
-    (omega (arith, found.0), found.1)
+    (omega (arith, found.0), grind (arith, found.1))
